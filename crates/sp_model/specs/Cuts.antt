@@ -1,0 +1,27 @@
+-- The cut: how great the objective of a listed point may be.
+use Rattle.std.specs.Prelude.{ℕ, ◌*◌, ◌/◌, ◌^◌, ◌<◌, ◌≤◌, cond, ℤ, pos, ◌+ℤ◌, int_le, unsigned_abs}
+use Rattle.sp_model.specs.declared.gaps.Gap.{Gap}
+use Rattle.sp_model.specs.declared.gaps.Gap.TheVariants.{Unlimited, Of}
+use Rattle.sp_model.specs.declared.gaps.Gaps.{Gaps}
+
+-- the lesser of two numbers
+abbrev pub least_of : ℤ → ℤ → ℤ
+least_of a b = cond (int_le a b) a b
+
+-- no cut is above this number
+abbrev pub ceiling : ℤ
+ceiling = pos (10 ^ 36)
+
+-- the greatest whole number not above best + gap * base, for a gap of p / 10^s
+abbrev pub part : ℤ → Gap → ℕ → ℤ
+part best Unlimited base = ceiling
+part best (Of p s) base = best +ℤ pos (p * base / 10 ^ s)
+
+-- the least of the absolute part, the relative part and the ceiling
+abbrev pub cut_of : ℤ → Gaps → ℕ → ℤ
+cut_of best gaps scale = least_of (least_of (part best gaps.abs (10 ^ scale)) (part best gaps.rel (unsigned_abs best))) ceiling
+
+-- a gap has at most twelve digits, and at most twelve behind the point
+abbrev pub IsGap : Gap → Type 0
+IsGap Unlimited = Unit {0}
+IsGap (Of p s) = (p < 10 ^ 12) × (s ≤ 12)

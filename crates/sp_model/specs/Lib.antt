@@ -1,0 +1,5 @@
+pub mod Boxes
+pub mod Cuts
+pub mod Lists
+pub mod Models
+pub mod Sums

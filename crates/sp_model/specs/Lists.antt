@@ -1,0 +1,80 @@
+-- The list: each kept point once, best objective first and then lexicographically.
+use Rattle.std.specs.Prelude.{◌≡◌, ◌≢◌, ◌↔◌, List, [], map, filter, All, AllPairs, Contains, Bool, ◌&&◌, Option, None, Some, ℤ, ◌≤ℤ◌, int_le}
+use Rattle.std.specs.List.{list_all}
+use Rattle.std.specs.List.Sorted.{IsStrictlySortedBy, IsSortedByKey, IsStableByKey, IsPermutation}
+use Rattle.std.specs.Ordering.{int_cmp, ordering_then}
+use Rattle.std.specs.Cmp.Lexicographic.{slice_cmp}
+use Rattle.std.specs.declared.cmp.Ordering.{Ordering}
+use Rattle.sp_model.specs.declared.found.Found.{Found}
+use Rattle.sp_model.specs.declared.gaps.Gaps.{Gaps}
+use Rattle.sp_model.specs.declared.parts.ModelParts.{ModelParts}
+use Rattle.sp_model.specs.Boxes.{points}
+use Rattle.sp_model.specs.Cuts.{cut_of}
+use Rattle.sp_model.specs.Models.{Feasible, objective, IsOptimum, row_holds, indicator_holds, set_holds, root_of}
+
+-- lexicographically: by the first value that differs
+abbrev pub lex_cmp : List ℤ → List ℤ → Ordering
+lex_cmp x y = slice_cmp int_cmp x y
+
+-- by the objective, then lexicographically
+abbrev pub point_cmp : ModelParts → List ℤ → List ℤ → Ordering
+point_cmp m x y = ordering_then (int_cmp (objective m x) (objective m y)) (lex_cmp x y)
+
+-- the point is feasible, and its objective isn't above the cut
+pub record IsKept (m : ModelParts) (cut : ℤ) (x : List ℤ) : Type 0 where
+  pub feasible : Feasible m x
+  pub near : objective m x ≤ℤ cut
+
+-- each point comes before all later ones, and exactly the kept points are there
+pub record IsList (m : ModelParts) (cut : ℤ) (xs : List (List ℤ)) : Type 0 where
+  pub ascending : IsStrictlySortedBy (point_cmp m) xs
+  pub exact : (x : List ℤ) → Contains xs x ↔ IsKept m cut x
+
+-- the list at the cut of the optimum under the gaps, and the empty one where there is no optimum
+abbrev pub IsListAt : ModelParts → Gaps → Option ℤ → List (List ℤ) → Type 0
+IsListAt m gaps None xs = xs ≡ []
+IsListAt m gaps (Some best) xs = IsList m (cut_of best gaps m.scale) xs
+
+pub record IsListWithin (m : ModelParts) (gaps : Gaps) (xs : List (List ℤ)) : Type 0 where
+  pub best : Option ℤ
+  pub optimum : IsOptimum m best
+  pub listed : IsListAt m gaps best xs
+
+-- the points of what was found
+abbrev pub points_of : List Found → List (List ℤ)
+points_of found = map (λ f. f.point) found
+
+-- each point has its objective beside it
+abbrev pub AreValued : ModelParts → List Found → Type 0
+AreValued m found = All (λ f. f.value ≡ objective m f.point) found
+
+-- each point with its objective, and the points are the list
+pub record IsFoundList (m : ModelParts) (cut : ℤ) (found : List Found) : Type 0 where
+  pub valued : AreValued m found
+  pub points : IsList m cut (points_of found)
+
+-- in any order: each point with its objective, all feasible, none twice, and none missing that is kept; more may be there
+pub record IsFoundEnough (m : ModelParts) (cut : ℤ) (found : List Found) : Type 0 where
+  pub valued : AreValued m found
+  pub feasible : All (λ f. Feasible m f.point) found
+  pub once : AllPairs (λ f g. f.point ≢ g.point) found
+  pub enough : (x : List ℤ) → IsKept m cut x → Contains (points_of found) x
+
+-- by the objective, then lexicographically, for points with their objectives
+abbrev pub found_cmp : Found → Found → Ordering
+found_cmp f g = ordering_then (int_cmp f.value g.value) (lex_cmp f.point g.point)
+
+-- each row, indicator and set holds at the point, as a test
+abbrev pub constraints_hold : ModelParts → List ℤ → Bool
+constraints_hold m x =
+    (list_all (λ row. row_holds row x) m.rows && list_all (λ i. indicator_holds i x) m.indicators) && list_all (λ set. set_holds set x) m.sos
+
+-- the points of the bounds in lexicographic order, kept
+abbrev pub kept : ModelParts → ℤ → List (List ℤ)
+kept m cut = filter (λ x. int_le (objective m x) cut) (filter (constraints_hold m) (points (root_of m)))
+
+-- the kept points in lexicographic order, stably ordered by the objective
+pub record IsSortedWalk (m : ModelParts) (cut : ℤ) (xs : List (List ℤ)) : Type 0 where
+  pub same : IsPermutation (kept m cut) xs
+  pub ordered : IsSortedByKey (objective m) int_cmp xs
+  pub stable : IsStableByKey (objective m) int_cmp (kept m cut) xs

@@ -1,0 +1,10 @@
+use crate::points::Point;
+
+/// A point with its objective.
+#[derive(Debug, Drop)]
+pub struct Found {
+    /// The point.
+    pub point: Point,
+    /// Its objective in scaled units, in the minimising direction.
+    pub value: i128,
+}

@@ -1,0 +1,19 @@
+//! The model of a pure integer program: its parts, its root box, what is feasible, what an objective
+//! is worth, the cut of a gap, and the list of the kept points.
+#![tactic(auto)]
+
+mod boxes;
+mod found;
+mod gaps;
+mod ids;
+mod items;
+mod parts;
+mod points;
+
+pub use boxes::BoxOf;
+pub use found::Found;
+pub use gaps::{Gap, Gaps};
+pub use ids::{RowId, VarId};
+pub use items::Items;
+pub use parts::{Indicator, ModelParts, Row, Sos, SosKind};
+pub use points::Point;

@@ -1,0 +1,21 @@
+-- How the fixed parts of the printed text are spelled.
+use Rattle.std.specs.Prelude.{ℕ, List, codes}
+use Rattle.sp_shell.specs.declared.wordings.Wording.{Wording}
+use Rattle.sp_shell.specs.declared.wordings.Wording.TheVariants as wording
+
+-- the bytes of a fixed part
+unfoldable pub spelling : Wording → List ℕ
+spelling wording.Usage = codes "usage: solpool [--absgap D] [--relgap D] [--nodes N] [--demo N] [FILE]\n"
+spelling wording.StatusDone = codes "status done\n"
+spelling wording.StatusNodeLimit = codes "status nodelimit\n"
+spelling wording.Optimum = codes "optimum "
+spelling wording.Infeasible = codes "infeasible\n"
+spelling wording.Solutions = codes "solutions "
+spelling wording.Nodes = codes "nodes "
+spelling wording.Colon = codes " :"
+spelling wording.Blank = codes " "
+spelling wording.LineEnd = codes "\n"
+spelling wording.Syntax = codes "refused 1 syntax line 1\n"
+spelling wording.FileAbsent = codes "refused 51 file absent\n"
+spelling wording.FileFault = codes "refused 52 file fault\n"
+spelling wording.FileTooLong = codes "refused 53 file too long\n"

@@ -1,0 +1,8 @@
+//! The top call of `solpool`: it reads the words, fetches the model file, finds the list and prints the reply.
+#![tactic(auto)]
+
+mod journals;
+mod outputs;
+mod wordings;
+
+pub use journals::{Entry, FetchNote, Journal, RunEnd, StoreNote};

@@ -1,9 +1,12 @@
 -- How printed pieces add up.
-use Rattle.std.proofs.Common.{◌≡◌, ℕ, List, [], ◌++◌, Option, refl, sym, ap, ◌∙◌}
+use Rattle.std.specs.Prelude.{ℤ, pos}
+use Rattle.std.proofs.Common.{◌≡◌, ℕ, suc, ◌+◌, ◌<◌, List, [], ◌∷◌, ◌++◌, length, get_or, drop, Option, Bor, refl, sym, ap, ◌∙◌, add-one}
+use Rattle.std.proofs.Math.Seq.{drop-cons}
 use Rattle.std.proofs.lemmas.List.{append_assoc, append-nil}
 use Rattle.sp_base.specs.Told.{append, AppendsPart}
 use Rattle.sp_base.proofs.ToldLaws.{append-nothing, append-append, part_of_front, part_behind}
-use Rattle.sp_shell.specs.Outputs.{Printed}
+use Rattle.sp_shell.specs.Outputs.{Printed, joined}
+use Rattle.sp_shell.specs.Replies.{named_value, named_values}
 
 -- the piece waits behind what waited, and nothing went out
 pub piece_waits : (old : Option (List ℕ)) (before piece after : List ℕ) → after ≡ before ++ piece → Printed old old before after piece []
@@ -52,3 +55,49 @@ pub printed_none : (old : Option (List ℕ)) (before text : List ℕ) → Printe
 printed_none old before text = record { part = []; whole = refl; told = sym (append-nothing old) }
 
 pub ruleset piece_rules = (piece_waits, piece_waits_alone, piece_sent, part_of_front, part_behind)
+
+pub ruleset step_rules = (printed_step, printed_fails, printed_none)
+
+-- one piece more of a list of pieces
+pub joined_drop : (ps : List (Bor (List ℕ))) (i : ℕ) (d : Bor (List ℕ)) → i < length ps
+    → joined (drop i ps) ≡ (get_or ps i d).now ++ joined (drop (i + 1) ps)
+joined_drop ps i d h = rw (add-one, drop-cons ps i d h)
+
+-- nothing more is printed
+pub printed_nothing : (old : Option (List ℕ)) (before text : List ℕ) → text ≡ [] → Printed old old before before text []
+printed_nothing old before text e = record { part = []; whole = ap (λ xs. before ++ xs) e; told = sym (append-nothing old) }
+
+-- one variable more
+pub named_values_drop : (ns : List (List ℕ)) (xs : List ℤ) (i : ℕ) (n : List ℕ) → i < length ns → i < length xs → n ≡ get_or ns i n
+    → named_values (drop i ns) (drop i xs) ≡ named_value n (get_or xs i (pos 0)) ++ named_values (drop (i + 1) ns) (drop (i + 1) xs)
+named_values_drop ns xs i n h k e =
+    rw (add-one, drop-cons ns i n h, drop-cons xs i (pos 0) k) (ap (λ m. named_value m (get_or xs i (pos 0)) ++ named_values (drop (suc i) ns) (drop (suc i) xs)) (sym e))
+
+-- one text is printed, and then another
+pub then_printed : {old mid new : Option (List ℕ)} {before between after first second : List ℕ}
+    → Printed old mid before between first [] → Printed mid new between after second [] → Printed old new before after (first ++ second) []
+then_printed {old} {mid} {new} {before} {between} {after} {first} {second} p q =
+    record {
+      part = p.part ++ q.part;
+      whole = sym (append_assoc before first second) ∙ ap (λ xs. xs ++ second) (p.whole ∙ ap (λ xs. p.part ++ xs) (append-nil between)) ∙ append_assoc p.part between second ∙ ap (λ xs. p.part ++ xs) q.whole ∙ sym (append_assoc p.part q.part (after ++ []));
+      told = q.told ∙ ap (λ told. append told q.part) p.told ∙ append-append old p.part q.part;
+    }
+
+-- the second text fails
+pub then_fails : {old mid new : Option (List ℕ)} {before between first : List ℕ} (second : List ℕ)
+    → Printed old mid before between first [] → AppendsPart mid new (between ++ second) → AppendsPart old new (before ++ (first ++ second))
+then_fails {old} {mid} {new} {before} {between} {first} second p q =
+    record {
+      part = p.part ++ q.part;
+      rest = q.rest;
+      whole = sym (append_assoc before first second) ∙ ap (λ xs. xs ++ second) (p.whole ∙ ap (λ xs. p.part ++ xs) (append-nil between)) ∙ append_assoc p.part between second ∙ ap (λ xs. p.part ++ xs) q.whole ∙ sym (append_assoc p.part q.part q.rest);
+      told = q.told ∙ ap (λ told. append told q.part) p.told ∙ append-append old p.part q.part;
+    }
+
+-- the first text fails
+pub first_fails : {old new : Option (List ℕ)} (before first second : List ℕ)
+    → AppendsPart old new (before ++ first) → AppendsPart old new (before ++ (first ++ second))
+first_fails {old} {new} before first second p =
+    record { part = p.part; rest = p.rest ++ second; whole = sym (append_assoc before first second) ∙ ap (λ xs. xs ++ second) p.whole ∙ append_assoc p.part p.rest second; told = p.told }
+
+pub ruleset then_rules = (then_printed, then_fails, first_fails)

@@ -1,2 +1,3 @@
 pub mod Outputs
+pub mod Replies
 pub mod Wording

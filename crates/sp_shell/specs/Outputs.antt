@@ -1,5 +1,6 @@
 -- Text on its way out: it stands in a buffer first, and goes to the sink when the buffer is full.
 use Rattle.std.specs.Prelude.{◌≡◌, ℕ, List, [], ◌∷◌, ◌++◌, Option, Result, Ok, Err}
+use Rattle.std.specs.Borrow.{Bor}
 use Rattle.sp_base.specs.Told.{append, AppendsPart}
 use Rattle.sp_base.specs.declared.sinks.SinkEnd.{SinkEnd}
 
@@ -14,3 +15,8 @@ pub record Printed (old new : Option (List ℕ)) (before after text left : List 
 abbrev pub Prints : {X : Type 0} → Result X SinkEnd → Option (List ℕ) → Option (List ℕ) → List ℕ → List ℕ → List ℕ → Type 0
 Prints (Ok done) old new before after text = Printed old new before after text []
 Prints (Err end) old new before after text = AppendsPart old new (before ++ text)
+
+-- the pieces one after another
+abbrev pub joined : List (Bor (List ℕ)) → List ℕ
+joined [] = []
+joined (p ∷ ps) = p.now ++ joined ps

@@ -3,6 +3,7 @@
 
 mod journals;
 mod outputs;
+mod printing;
 mod wordings;
 
 pub use journals::{Entry, FetchNote, Journal, RunEnd, StoreNote};

@@ -2,6 +2,7 @@
 //! is worth, the cut of a gap, and the list of the kept points.
 #![tactic(auto)]
 
+mod box_laws;
 mod boxes;
 mod found;
 mod gaps;
@@ -10,6 +11,7 @@ mod items;
 mod parts;
 mod points;
 
+pub use box_laws::{points_are_all_within, points_are_lexicographic, within_is_tested};
 pub use boxes::BoxOf;
 pub use found::Found;
 pub use gaps::{Gap, Gaps};

@@ -1,2 +1,3 @@
 pub mod PointLemmas
 pub mod RisingLemmas
+pub mod SplitLemmas

@@ -59,7 +59,7 @@ Contains-flat_map_parts f (z ∷ zs) y h =
 
 -- ---- the numbers of a range
 
-natural_cases : (z : ℤ) → ((z <ℤ pos 0) × (natural z ≡ 0)) ⊎ (pos (natural z) ≡ z)
+pub natural_cases : (z : ℤ) → ((z <ℤ pos 0) × (natural z ≡ 0)) ⊎ (pos (natural z) ≡ z)
 natural_cases (pos n) = inr refl
 natural_cases (negsuc n) = inl (omega (arith, ints), refl)
 

@@ -11,7 +11,10 @@ mod items;
 mod parts;
 mod points;
 
-pub use box_laws::{points_are_all_within, points_are_lexicographic, within_is_tested};
+pub use box_laws::{
+    points_are_all_within, points_are_counted, points_are_lexicographic, split_divides_count,
+    split_divides_points, split_is_by_value, within_is_tested,
+};
 pub use boxes::BoxOf;
 pub use found::Found;
 pub use gaps::{Gap, Gaps};

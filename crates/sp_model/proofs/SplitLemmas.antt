@@ -1,8 +1,8 @@
 -- A split divides the points of a box, and their number.
-use Rattle.std.proofs.Common.{◌≡◌, ℕ, zero, suc, ◌+◌, ◌*◌, ◌<◌, ◌≤◌, ◌⊎◌, ◌↔◌, inl, inr, List, [], ◌∷◌, ◌++◌, map, flat_map, length, get_or, set, ℤ, pos, negsuc, ◌+ℤ◌, ◌-ℤ◌, ◌≤ℤ◌, ◌<ℤ◌, refl, sym, ap, ◌∙◌, subst, arith, zero-lt-suc, suc-le-suc, le_of_suc-le-suc, not-suc-le-zero, length-append, suc-mul, zero-mul, add-mul, mul-pos, mul-zero}
+use Rattle.std.proofs.Common.{◌≡◌, ℕ, zero, suc, ◌+◌, ◌*◌, ◌<◌, ◌⊎◌, ◌↔◌, inl, inr, List, [], ◌∷◌, map, flat_map, length, ℤ, pos, ◌+ℤ◌, ◌-ℤ◌, ◌≤ℤ◌, ◌<ℤ◌, refl, sym, ap, ◌∙◌, arith, zero-lt-suc, le_of_suc-le-suc, not-suc-le-zero, length-append, suc-mul, zero-mul, add-mul, mul-pos, mul-zero}
 use Rattle.std.proofs.Math.ListN.{length-map}
 use Rattle.std.proofs.lemmas.Int.{ints, by_lt_z}
-use Rattle.sp_model.specs.Boxes.{Bounds, ranges, range_at, entry, IsBetween, IsWithin, natural, width_of, numbers_from, points, point_count, below, above, CanSplit}
+use Rattle.sp_model.specs.Boxes.{Bounds, entry, IsBetween, IsWithin, width_of, numbers_from, points, point_count, below, above, CanSplit}
 use Rattle.sp_model.proofs.PointLemmas.{within_cons, within_head, within_tail, natural_cases}
 
 -- ---- the length of the list of points
@@ -151,29 +151,3 @@ split_parts_have_points (r ∷ rs) (suc v) at s h =
     let parts = factors_positive (width_of r) (point_count rs) h in
     let rest = split_parts_have_points rs v at (split_tail r rs v at s) parts.1 in
     (mul-pos parts.0 rest.0, mul-pos parts.0 rest.1)
-
--- ---- boxes as two lists
-
-pub length_ranges : (ls us : List ℤ) → length us ≡ length ls → length (ranges ls us) ≡ length ls
-length_ranges [] us e = refl
-length_ranges (l ∷ ls) [] e = absurd (let h : 0 ≡ suc (length ls) = e in omega arith)
-length_ranges (l ∷ ls) (u ∷ us) e = let h : suc (length us) ≡ suc (length ls) = e in ap suc (length_ranges ls us (cc))
-
-pub range_of_ranges : (ls us : List ℤ) (j : ℕ) → length us ≡ length ls → j < length ls → range_at (ranges ls us) j ≡ (get_or ls j (pos 0), get_or us j (pos 0))
-range_of_ranges [] us j e h = absurd (not-suc-le-zero h)
-range_of_ranges (l ∷ ls) [] j e h = absurd (let k : 0 ≡ suc (length ls) = e in omega arith)
-range_of_ranges (l ∷ ls) (u ∷ us) zero e h = refl
-range_of_ranges (l ∷ ls) (u ∷ us) (suc j) e h = let k : suc (length us) ≡ suc (length ls) = e in range_of_ranges ls us j (cc) (le_of_suc-le-suc h)
-
-pub below_ranges : (ls us : List ℤ) (v : ℕ) (at : ℤ) → ranges ls (set us v at) ≡ below (ranges ls us) v at
-below_ranges [] us v at = refl
-below_ranges (l ∷ ls) [] v at = refl
-below_ranges (l ∷ ls) (u ∷ us) zero at = refl
-below_ranges (l ∷ ls) (u ∷ us) (suc v) at = ap (λ b. (l, u) ∷ b) (below_ranges ls us v at)
-
-pub above_ranges : (ls us : List ℤ) (v : ℕ) (at : ℤ) → ranges (set ls v (at +ℤ pos 1)) us ≡ above (ranges ls us) v at
-above_ranges [] us v at = refl
-above_ranges (l ∷ ls) [] zero at = refl
-above_ranges (l ∷ ls) [] (suc v) at = refl
-above_ranges (l ∷ ls) (u ∷ us) zero at = refl
-above_ranges (l ∷ ls) (u ∷ us) (suc v) at = ap (λ b. (l, u) ∷ b) (above_ranges ls us v at)

@@ -8,6 +8,7 @@ mod found;
 mod gaps;
 mod ids;
 mod items;
+mod memory;
 mod parts;
 mod points;
 
@@ -20,5 +21,6 @@ pub use found::Found;
 pub use gaps::{Gap, Gaps};
 pub use ids::{RowId, VarId};
 pub use items::Items;
+pub use memory::NoMemory;
 pub use parts::{Indicator, ModelParts, Row, Sos, SosKind};
 pub use points::Point;

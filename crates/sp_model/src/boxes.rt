@@ -1,4 +1,10 @@
+ghost use Rattle.std.specs.Prelude.{◌≡◌, ◌+◌, ◌*◌, ◌^◌, ◌<◌, ◌≤◌, ◌↔◌, length, slice_set, IfOk, IsTrue, SomeIff, ◌<ℤ◌};
+ghost use Rattle.sp_model.specs.Boxes.{ranges, range_at, width_of, point_count, below, above, CanSplit};
+
+use crate::ids::VarId;
 use crate::items::Items;
+use crate::memory::NoMemory;
+use std::alloc::Global;
 use std::marker::Model;
 
 /// A box: a range of whole numbers for each variable, which is empty where its least number is above its greatest.
@@ -20,4 +26,138 @@ impl Model for BoxOf {
     ghost view = { λ b. ranges b.lower b.upper };
 
     ghost invariant = { λ b. length b.upper ≡ length b.lower };
+}
+
+impl BoxOf {
+    /// How many variables the box has.
+    pub fn len(&self) -> usize
+        ensures { result ≡ length self.now }
+    {
+        self.lower.len()
+    }
+
+    /// The least and the greatest value of a variable.
+    pub fn range(&self, var: VarId) -> (i64, i64)
+        requires { var < length self.now }
+        ensures { result ≡ range_at self.now var }
+    {
+        let place = var.index();
+        (self.lower.as_slice()[place], self.upper.as_slice()[place])
+    }
+
+    /// Whether the box has a point: no range is empty.
+    pub fn has_points(&self) -> bool
+        ensures { IsTrue result ↔ (0 < point_count self.now) }
+    {
+        are_all_filled(self.lower.as_slice(), self.upper.as_slice())
+    }
+
+    /// The number of points, or `None` where it passes 128 bits.
+    pub fn count(&self) -> Option<u128>
+        ensures { SomeIff result (point_count self.now < 2 ^ 128) (point_count self.now) }
+    {
+        if self.has_points() {
+            product_of_widths(self.lower.as_slice(), self.upper.as_slice())
+        } else {
+            Some(0)
+        }
+    }
+
+    /// The part with the variable's values up to `at`, and the part with those above it.
+    pub fn split(&self, alloc: Global, var: VarId, at: i64) -> Result<(BoxOf, BoxOf), NoMemory>
+        requires { CanSplit self.now var at }
+        ensures { IfOk result (λ parts. (parts.0 ≡ below self.now var at) × (parts.1 ≡ above self.now var at)) }
+    {
+        let lower_part = self.up_to(alloc, var, &at)?;
+        let upper_part = self.from_after(alloc, var, &at)?;
+        Ok((lower_part, upper_part))
+    }
+
+    /// The part with the variable's values up to `at`.
+    fn up_to(&self, alloc: Global, var: VarId, at: &i64) -> Result<BoxOf, NoMemory>
+        requires { var < length self.now }
+        ensures { IfOk result (λ part. part ≡ below self.now var at.now) }
+    {
+        let lower = copy_of(alloc, self.lower.as_slice())?;
+        let upper = copy_with(alloc, self.upper.as_slice(), var.index(), at)?;
+        Ok(BoxOf { lower, upper })
+    }
+
+    /// The part with the variable's values above `at`.
+    fn from_after(&self, alloc: Global, var: VarId, at: &i64) -> Result<BoxOf, NoMemory>
+        requires known { var < length self.now }
+        requires room { at.now <ℤ (range_at self.now var).1 }
+        ensures { IfOk result (λ part. part ≡ above self.now var at.now) }
+    {
+        let place = var.index();
+        let _greatest = self.upper.as_slice()[place];
+        let next = *at + 1;
+        let lower = copy_with(alloc, self.lower.as_slice(), place, &next)?;
+        let upper = copy_of(alloc, self.upper.as_slice())?;
+        Ok(BoxOf { lower, upper })
+    }
+}
+
+/// The same numbers.
+fn copy_of(alloc: Global, items: &[i64]) -> Result<Items<i64>, NoMemory>
+    ensures { IfOk result (λ copy. copy ≡ items.now) }
+{
+    let copy = Vec::from_slice(alloc, items)?;
+    Ok(Items::from_vec(copy))
+}
+
+/// The same numbers but for one.
+fn copy_with(
+    alloc: Global,
+    items: &[i64],
+    place: usize,
+    value: &i64,
+) -> Result<Items<i64>, NoMemory>
+    requires { place < length items.now }
+    ensures { IfOk result (λ copy. copy ≡ slice_set items.now place value.now) }
+{
+    let mut copy = Vec::from_slice(alloc, items)?;
+    copy[place] = *value;
+    Ok(Items::from_vec(copy))
+}
+
+/// How many whole numbers lie from `least` to `greatest`.
+fn width_between(least: &i64, greatest: &i64) -> u128
+    ensures value { result ≡ width_of (least.now, greatest.now) }
+    ensures bound { result ≤ 2 ^ 64 }
+{
+    if *greatest < *least {
+        0
+    } else {
+        u128::from(greatest.abs_diff(*least)) + 1
+    }
+}
+
+/// Whether no range is empty.
+fn are_all_filled(lower: &[i64], upper: &[i64]) -> bool
+    requires { length upper.now ≡ length lower.now }
+    ensures { IsTrue result ↔ (0 < point_count (ranges lower.now upper.now)) }
+{
+    for place in 0..lower.len() {
+        if width_between(&lower[place], &upper[place]) == 0 {
+            return false;
+        }
+    }
+    true
+}
+
+/// The product of the widths of ranges that aren't empty, or `None` where it passes 128 bits.
+fn product_of_widths(lower: &[i64], upper: &[i64]) -> Option<u128>
+    requires paired { length upper.now ≡ length lower.now }
+    requires filled { 0 < point_count (ranges lower.now upper.now) }
+    ensures { SomeIff result (point_count (ranges lower.now upper.now) < 2 ^ 128) (point_count (ranges lower.now upper.now)) }
+{
+    let mut count: u128 = 1;
+    for place in 0..lower.len() {
+        match count.checked_mul(width_between(&lower[place], &upper[place])) {
+            None => return None,
+            Some(product) => count = product,
+        }
+    }
+    Some(count)
 }

@@ -2,18 +2,25 @@
 //! is worth, the cut of a gap, and the list of the kept points.
 #![tactic(auto)]
 
+mod box_laws;
 mod boxes;
 mod found;
 mod gaps;
 mod ids;
 mod items;
+mod memory;
 mod parts;
 mod points;
 
+pub use box_laws::{
+    points_are_all_within, points_are_counted, points_are_lexicographic, split_divides_count,
+    split_divides_points, split_is_by_value, within_is_tested,
+};
 pub use boxes::BoxOf;
 pub use found::Found;
 pub use gaps::{Gap, Gaps};
 pub use ids::{RowId, VarId};
 pub use items::Items;
+pub use memory::NoMemory;
 pub use parts::{Indicator, ModelParts, Row, Sos, SosKind};
 pub use points::Point;

@@ -1,0 +1,4 @@
+pub mod PointLemmas
+pub mod RangeLemmas
+pub mod RisingLemmas
+pub mod SplitLemmas

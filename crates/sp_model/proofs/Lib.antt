@@ -1,3 +1,5 @@
+pub mod ListLemmas
+pub mod MemberLemmas
 pub mod OrderLemmas
 pub mod PointLemmas
 pub mod RisingLemmas

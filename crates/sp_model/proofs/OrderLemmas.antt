@@ -43,15 +43,15 @@ not_both o x y h k = let e : Less ≡ ordering_reverse Less = sym h ∙ o.antisy
 pub not_itself : {X : Type 0} {R : X → X → Ordering} → IsTotalOrder R → (x : X) → R x x ≡ Less → ⊥
 not_itself o x h = not_both o x x h h
 
--- two that differ, of which the later isn't below the earlier
-pub less_from : {X : Type 0} {R : X → X → Ordering} → IsTotalOrder R → ((x y : X) → R x y ≡ Equal → x ≡ y) → (x y : X) → is_lt (R y x) ≡ false → x ≢ y → R x y ≡ Less
-less_from {X} {R} o exact x y late apart =
-    less_case (R x y) (R y x) (o.antisymm x y) late (λ e. apart (exact x y e))
-
 less_case : (a b : Ordering) → a ≡ ordering_reverse b → is_lt b ≡ false → (a ≡ Equal → ⊥) → a ≡ Less
 less_case a Less e late apart = cc
 less_case a Equal e late apart = absurd (apart e)
 less_case a Greater e late apart = e
+
+-- two that differ, of which the later isn't below the earlier
+pub less_from : {X : Type 0} {R : X → X → Ordering} → IsTotalOrder R → ((x y : X) → R x y ≡ Equal → x ≡ y) → (x y : X) → is_lt (R y x) ≡ false → x ≢ y → R x y ≡ Less
+less_from {X} {R} o exact x y late apart =
+    less_case (R x y) (R y x) (o.antisymm x y) late (λ e. apart (exact x y e))
 
 -- the first of two lists with the same members is the same
 first_same : {X : Type 0} {R : X → X → Ordering} → IsTotalOrder R → (x y : X) (xs ys : List X) → IsStrictlySortedBy R (x ∷ xs) → IsStrictlySortedBy R (y ∷ ys) → ((z : X) → Contains (x ∷ xs) z ↔ Contains (y ∷ ys) z) → x ≡ y

@@ -1,3 +1,4 @@
+pub mod EnoughLemmas
 pub mod ListLemmas
 pub mod MemberLemmas
 pub mod OrderLemmas

@@ -91,3 +91,6 @@ found_list m cut found sorted moved ordered enough near =
                 λ h. Contains-permutation (points_of found) (points_of sorted) x points_moved (enough.enough x h))
         }
     }
+
+pub found_total : IsTotalOrder found_cmp
+found_total = then_total (on_total (λ f. f.value) int_cmp_total) (on_total (λ f. f.point) lex_total)

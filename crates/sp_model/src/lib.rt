@@ -7,6 +7,7 @@ mod found;
 mod gaps;
 mod ids;
 mod items;
+mod lists;
 mod parts;
 mod points;
 
@@ -15,5 +16,6 @@ pub use found::Found;
 pub use gaps::{Gap, Gaps};
 pub use ids::{RowId, VarId};
 pub use items::Items;
+pub use lists::{least_value, list_from, order};
 pub use parts::{Indicator, ModelParts, Row, Sos, SosKind};
 pub use points::Point;

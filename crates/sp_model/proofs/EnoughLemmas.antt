@@ -7,7 +7,8 @@ use Rattle.sp_model.specs.declared.found.Found.{Found}
 use Rattle.sp_model.specs.declared.parts.ModelParts.{ModelParts}
 use Rattle.sp_model.specs.Models.{Feasible, objective, IsOptimum, IsLeast}
 use Rattle.sp_model.specs.Lists.{IsKept, IsFoundEnough, IsFoundAll, AreValued, points_of, found_within}
-use Rattle.sp_model.proofs.MemberLemmas.{contains_map, contains_of_map, contains_filter}
+use Rattle.sp_model.proofs.PointLemmas.{Contains-map, Contains-map_parts}
+use Rattle.sp_model.proofs.MemberLemmas.{contains_filter}
 
 pub int_le_true : (a b : ℤ) → a ≤ℤ b → int_le a b ≡ true
 int_le_true a b h = grind (arith, ints)
@@ -24,12 +25,12 @@ all_within cut found =
 -- a kept point that was found is found within the cut
 pub kept_within : (m : ModelParts) (cut : ℤ) (found : List Found) → AreValued m found → (x : List ℤ) → IsKept m cut x → Contains (points_of found) x → Contains (points_of (found_within cut found)) x
 kept_within m cut found valued x kept h =
-    let source = contains_of_map (λ (f : Found). f.point) found x h in
+    let source = Contains-map_parts (λ (f : Found). f.point) found x h in
     let value_is : source.0.value ≡ objective m x =
         All-contains (λ f. f.value ≡ objective m f.point) found source.0 valued source.1 ∙ ap (objective m) source.2 in
     let near : source.0.value ≤ℤ cut = subst (λ v. v ≤ℤ cut) (sym value_is) kept.near in
     subst (λ y. Contains (points_of (found_within cut found)) y) source.2
-        (contains_map (λ (f : Found). f.point) (found_within cut found) source.0
+        (Contains-map (λ (f : Found). f.point) (found_within cut found) source.0
             (contains_filter (λ (f : Found). int_le f.value cut) found source.0 (int_le_true source.0.value cut near) source.1))
 
 -- enough are enough without those above the cut
@@ -53,7 +54,7 @@ reached_at m found v (k, f, long, is, value) all =
 
 least_at : (m : ModelParts) (found : List Found) (v : ℤ) → All (λ f. v ≤ℤ f.value) found → IsFoundAll m found → (x : List ℤ) → Feasible m x → v ≤ℤ objective m x
 least_at m found v least all x feasible =
-    let source = contains_of_map (λ (f : Found). f.point) found x (all.whole x feasible) in
+    let source = Contains-map_parts (λ (f : Found). f.point) found x (all.whole x feasible) in
     let value_is : source.0.value ≡ objective m x =
         All-contains (λ f. f.value ≡ objective m f.point) found source.0 all.valued source.1 ∙ ap (objective m) source.2 in
     subst (λ w. v ≤ℤ w) value_is (All-contains (λ f. v ≤ℤ f.value) found source.0 least source.1)

@@ -4,3 +4,4 @@ pub mod MemberLemmas
 pub mod OrderLemmas
 pub mod PointLemmas
 pub mod RisingLemmas
+pub mod WalkLemmas

@@ -8,35 +8,17 @@ use Rattle.std.proofs.lemmas.Cmp.{tied_itself, eq_by_cmp_equiv}
 use Rattle.std.proofs.lemmas.List.{get_or-map, length-map}
 use Rattle.std.proofs.lemmas.List.Elements.{All-contains, filter_passes}
 use Rattle.std.proofs.lemmas.Map.Keys.{IsDistinct-from_apart, apart_from_distinct}
-use Rattle.sp_model.proofs.OrderLemmas.{contains_cases, contains_first, contains_later, contains_none}
-
--- the image of a member is a member of the images
-pub contains_map : {X Y : Type 0} (f : X → Y) (xs : List X) (x : X) → Contains xs x → Contains (map f xs) (f x)
-contains_map f [] x h = absurd (contains_none x h)
-contains_map f (y ∷ ys) x h =
-    elim (contains_cases y ys x h) [
-        inl here ↦ subst (λ v. Contains (f y ∷ map f ys) v) (ap f here) (contains_first (f y) (map f ys))
-      | inr later ↦ contains_later (f y) (map f ys) (f x) (contains_map f ys x later) ]
-
--- a member of the images is the image of a member
-pub contains_of_map : {X Y : Type 0} (f : X → Y) (xs : List X) (y : Y) → Contains (map f xs) y → (x : X) × Contains xs x × (f x ≡ y)
-contains_of_map f [] y h = absurd (contains_none y h)
-contains_of_map f (x ∷ xs) y h =
-    elim (contains_cases (f x) (map f xs) y h) [
-        inl here ↦ (x, contains_first x xs, here)
-      | inr later ↦
-            let rest = contains_of_map f xs y later in
-            (rest.0, contains_later x xs rest.0 rest.1, rest.2) ]
+use Rattle.sp_model.proofs.PointLemmas.{Contains-cons_cases, Contains-here, Contains-later, Contains-none}
 
 -- a member that passes is kept
 pub contains_filter : {X : Type 0} (p : X → Bool) (xs : List X) (z : X) → p z ≡ true → Contains xs z → Contains (filter p xs) z
-contains_filter p [] z t h = absurd (contains_none z h)
+contains_filter p [] z t h = absurd (Contains-none z h)
 contains_filter p (x ∷ xs) z t h =
     cond_both (p x) (x ∷ filter p xs) (filter p xs) (λ l. Contains l z)
-        (λ passes. elim (contains_cases x xs z h) [
-            inl here ↦ subst (λ v. Contains (x ∷ filter p xs) v) here (contains_first x (filter p xs))
-          | inr later ↦ contains_later x (filter p xs) z (contains_filter p xs z t later) ])
-        (λ fails. elim (contains_cases x xs z h) [
+        (λ passes. elim (Contains-cons_cases x xs z h) [
+            inl here ↦ subst (λ v. Contains (x ∷ filter p xs) v) here (Contains-here x (filter p xs))
+          | inr later ↦ Contains-later x (filter p xs) z (contains_filter p xs z t later) ])
+        (λ fails. elim (Contains-cons_cases x xs z h) [
             inl here ↦ (let e : true ≡ false = sym t ∙ ap p (sym here) ∙ fails in cc)
           | inr later ↦ contains_filter p xs z t later ])
 
@@ -45,10 +27,10 @@ pub contains_before_filter : {X : Type 0} (p : X → Bool) (xs : List X) (z : X)
 contains_before_filter p [] z = λ h. h
 contains_before_filter p (x ∷ xs) z =
     cond_both (p x) (x ∷ filter p xs) (filter p xs) (λ l. Contains l z → Contains (x ∷ xs) z)
-        (λ passes h. elim (contains_cases x (filter p xs) z h) [
-            inl here ↦ subst (λ v. Contains (x ∷ xs) v) here (contains_first x xs)
-          | inr later ↦ contains_later x xs z (contains_before_filter p xs z later) ])
-        (λ fails h. contains_later x xs z (contains_before_filter p xs z h))
+        (λ passes h. elim (Contains-cons_cases x (filter p xs) z h) [
+            inl here ↦ subst (λ v. Contains (x ∷ xs) v) here (Contains-here x xs)
+          | inr later ↦ Contains-later x xs z (contains_before_filter p xs z later) ])
+        (λ fails h. Contains-later x xs z (contains_before_filter p xs z h))
 
 -- what is kept passes
 pub passes_filter : {X : Type 0} (p : X → Bool) (xs : List X) (z : X) → Contains (filter p xs) z → p z ≡ true

@@ -1,36 +1,12 @@
 -- Lists that ascend strictly in an order.
 use Rattle.std.proofs.Common.{◌≡◌, ◌≢◌, ℕ, ◌+◌, ◌<◌, Bool, true, false, List, [], ◌∷◌, ◌++◌, length, get_or, refl, sym, ap, ◌∙◌, inl, inr, ◌⊎◌, ◌↔◌, All, Contains, Ordering, Less, Equal, Greater, is_lt, arith, subst}
 use Rattle.std.specs.Cmp.{IsTotalOrder}
-use Rattle.std.specs.List.{AllByRecursion}
 use Rattle.std.specs.List.Sorted.{IsStrictlySortedBy}
 use Rattle.std.specs.Ordering.{ordering_reverse}
 use Rattle.std.proofs.lemmas.Cmp.{tied_itself}
-use Rattle.std.proofs.lemmas.List.Elements.{All-cons, All-nil, All-contains, All-from_recursion, recursion_from_All, Contains-append_cases, Contains-append_left, Contains-append_right}
+use Rattle.std.proofs.lemmas.List.Elements.{All-contains, All-from_recursion}
 use Rattle.std.proofs.lemmas.Map.Keys.{sorted_head, sorted_tail}
-
-pub sorted_nil : {X : Type 0} (R : X → X → Ordering) → IsStrictlySortedBy R []
-unfolding IsStrictlySortedBy
-sorted_nil R = tt
-
-pub sorted_cons : {X : Type 0} (R : X → X → Ordering) (x : X) (xs : List X) → All (λ y. R x y ≡ Less) xs → IsStrictlySortedBy R xs → IsStrictlySortedBy R (x ∷ xs)
-unfolding IsStrictlySortedBy
-sorted_cons R x xs below rest = (recursion_from_All (λ y. R x y ≡ Less) xs below, rest)
-
--- the first, or one of the others
-pub contains_cases : {X : Type 0} (x : X) (xs : List X) (z : X) → Contains (x ∷ xs) z → (x ≡ z) ⊎ Contains xs z
-contains_cases x xs z h =
-    elim (Contains-append_cases (x ∷ []) xs z h) [
-        inl one ↦ inl (All-contains (λ w. x ≡ w) (x ∷ []) z (All-cons (λ w. x ≡ w) x [] refl (All-nil (λ w. x ≡ w))) one)
-      | inr later ↦ inr later ]
-
-pub contains_first : {X : Type 0} (x : X) (xs : List X) → Contains (x ∷ xs) x
-contains_first x xs = (0, omega arith, refl)
-
-pub contains_later : {X : Type 0} (x : X) (xs : List X) (z : X) → Contains xs z → Contains (x ∷ xs) z
-contains_later x xs z h = Contains-append_right (x ∷ []) xs z h
-
-pub contains_none : {X : Type 0} (z : X) → Contains [] z → ⊥
-contains_none z h = omega (arith, h.1)
+use Rattle.sp_model.proofs.PointLemmas.{Contains-cons_cases, Contains-here, Contains-later, Contains-none}
 
 -- the first is below each of the others
 pub below_all : {X : Type 0} (R : X → X → Ordering) (x : X) (xs : List X) (z : X) → IsStrictlySortedBy R (x ∷ xs) → Contains xs z → R x z ≡ Less
@@ -56,24 +32,24 @@ less_from {X} {R} o exact x y late apart =
 -- the first of two lists with the same members is the same
 first_same : {X : Type 0} {R : X → X → Ordering} → IsTotalOrder R → (x y : X) (xs ys : List X) → IsStrictlySortedBy R (x ∷ xs) → IsStrictlySortedBy R (y ∷ ys) → ((z : X) → Contains (x ∷ xs) z ↔ Contains (y ∷ ys) z) → x ≡ y
 first_same {X} {R} o x y xs ys s t e =
-    elim (contains_cases y ys x ((e x).0 (contains_first x xs))) [
+    elim (Contains-cons_cases y ys x ((e x).0 (Contains-here x xs))) [
         inl same ↦ sym same
-      | inr later ↦ elim (contains_cases x xs y ((e y).1 (contains_first y ys))) [
+      | inr later ↦ elim (Contains-cons_cases x xs y ((e y).1 (Contains-here y ys))) [
             inl same ↦ same
           | inr back ↦ absurd (not_both o x y (below_all R x xs y s back) (below_all R y ys x t later)) ] ]
 
 -- a member of the one's rest is a member of the other's rest
 rest_member : {X : Type 0} {R : X → X → Ordering} → IsTotalOrder R → (x y : X) (xs ys : List X) → x ≡ y → IsStrictlySortedBy R (x ∷ xs) → (z : X) → (Contains (x ∷ xs) z → Contains (y ∷ ys) z) → Contains xs z → Contains ys z
 rest_member {X} {R} o x y xs ys same s z e h =
-    elim (contains_cases y ys z (e (contains_later x xs z h))) [
+    elim (Contains-cons_cases y ys z (e (Contains-later x xs z h))) [
         inl here ↦ absurd (not_itself o x (rw (sym (same ∙ here)) at (below_all R x xs z s h)))
       | inr later ↦ later ]
 
 -- two strictly ascending lists with the same members are the same
 pub same_sorted : {X : Type 0} {R : X → X → Ordering} → IsTotalOrder R → (xs ys : List X) → IsStrictlySortedBy R xs → IsStrictlySortedBy R ys → ((z : X) → Contains xs z ↔ Contains ys z) → xs ≡ ys
 same_sorted o [] [] s t e = refl
-same_sorted o [] (y ∷ ys) s t e = absurd (contains_none y ((e y).1 (contains_first y ys)))
-same_sorted o (x ∷ xs) [] s t e = absurd (contains_none x ((e x).0 (contains_first x xs)))
+same_sorted o [] (y ∷ ys) s t e = absurd (Contains-none y ((e y).1 (Contains-here y ys)))
+same_sorted o (x ∷ xs) [] s t e = absurd (Contains-none x ((e x).0 (Contains-here x xs)))
 same_sorted {X} {R} o (x ∷ xs) (y ∷ ys) s t e =
     let same : x ≡ y = first_same o x y xs ys s t e in
     let rest : xs ≡ ys = same_sorted o xs ys (sorted_tail R x xs s) (sorted_tail R y ys t)

@@ -5,3 +5,6 @@ pub mod OrderLemmas
 pub mod PointLemmas
 pub mod RisingLemmas
 pub mod WalkLemmas
+pub mod ListOfLemmas
+pub mod SetLemmas
+pub mod AnswerLemmas

@@ -1,13 +1,13 @@
 -- The optimum, the list under gaps, its first k and the found list are each determined.
-use Rattle.std.proofs.Common.{◌≡◌, ℕ, suc, ◌<◌, List, [], ◌∷◌, map, take, refl, sym, ap, ◌∙◌, subst, All, Option, None, Some, ℤ, ◌≤ℤ◌, arith}
+use Rattle.std.proofs.Common.{◌≡◌, ℕ, List, [], ◌∷◌, take, refl, sym, ap, ◌∙◌, subst, Option, None, Some, ℤ, ◌≤ℤ◌, arith}
 use Rattle.std.proofs.lemmas.Int.{ints}
 use Rattle.std.proofs.lemmas.List.Elements.{All-head, All-tail}
 use Rattle.sp_model.specs.declared.found.Found.{Found}
 use Rattle.sp_model.specs.declared.gaps.Gaps.{Gaps}
 use Rattle.sp_model.specs.declared.parts.ModelParts.{ModelParts}
 use Rattle.sp_model.specs.Cuts.{cut_of}
-use Rattle.sp_model.specs.Models.{Feasible, objective, IsOptimum, IsLeast}
-use Rattle.sp_model.specs.Lists.{IsList, IsListAt, IsListWithin, IsBest, IsFoundList, AreValued, points_of}
+use Rattle.sp_model.specs.Models.{objective, IsOptimum, IsLeast}
+use Rattle.sp_model.specs.Lists.{IsListAt, IsListWithin, IsBest, IsFoundList, AreValued, points_of}
 use Rattle.sp_model.proofs.ListLemmas.{unique}
 
 no_less : (a b : ℤ) → a ≤ℤ b → b ≤ℤ a → a ≡ b
@@ -53,9 +53,9 @@ same_finds m (f ∷ fs) (g ∷ gs) s t e =
     let point : f.point ≡ g.point = cc in
     let rest : points_of fs ≡ points_of gs = cc in
     let value : f.value ≡ g.value =
-        All-head (λ f. f.value ≡ objective m f.point) f fs s ∙ ap (objective m) point ∙ sym (All-head (λ f. f.value ≡ objective m f.point) g gs t) in
+    All-head (λ f. f.value ≡ objective m f.point) f fs s ∙ ap (objective m) point ∙ sym (All-head (λ f. f.value ≡ objective m f.point) g gs t) in
     ap (λ v. v ∷ fs) (same_find f g point value)
-        ∙ ap (λ vs. g ∷ vs) (same_finds m fs gs (All-tail (λ f. f.value ≡ objective m f.point) f fs s) (All-tail (λ f. f.value ≡ objective m f.point) g gs t) rest)
+    ∙ ap (λ vs. g ∷ vs) (same_finds m fs gs (All-tail (λ f. f.value ≡ objective m f.point) f fs s) (All-tail (λ f. f.value ≡ objective m f.point) g gs t) rest)
 
 -- at most one list of found points fits
 pub one_found : (m : ModelParts) (cut : ℤ) (found other : List Found) → IsFoundList m cut found → IsFoundList m cut other → found ≡ other

@@ -8,3 +8,4 @@ pub mod WalkLemmas
 pub mod ListOfLemmas
 pub mod SetLemmas
 pub mod AnswerLemmas
+pub mod KeptLemmas

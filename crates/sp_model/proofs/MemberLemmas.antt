@@ -1,10 +1,10 @@
 -- What a list contains after a map or a filter, and that none of its members stands twice.
-use Rattle.std.proofs.Common.{◌≡◌, ◌≢◌, ℕ, ◌+◌, ◌<◌, Bool, true, false, cond, List, [], ◌∷◌, map, filter, length, get_or, refl, sym, ap, ap₂, ◌∙◌, subst, inl, inr, ◌⊎◌, ◌↔◌, All, AllPairs, Contains, Ordering, Less, Equal, Greater, is_eq, arith}
+use Rattle.std.proofs.Common.{◌≡◌, ◌≢◌, ◌<◌, Bool, true, false, List, [], ◌∷◌, map, filter, length, get_or, refl, sym, ap, ◌∙◌, subst, inl, inr, AllPairs, Contains, Ordering, Less, Equal, Greater, is_eq, arith}
 use Rattle.std.specs.List.{IsDistinct}
 use Rattle.std.specs.Cmp.{IsTotalOrder}
 use Rattle.std.specs.Ordering.{eq_by_cmp}
 use Rattle.std.proofs.lemmas.Bool.{cond_both, false_from_ne_true}
-use Rattle.std.proofs.lemmas.Cmp.{tied_itself, eq_by_cmp_equiv}
+use Rattle.std.proofs.lemmas.Cmp.{tied_itself}
 use Rattle.std.proofs.lemmas.List.{get_or-map, length-map}
 use Rattle.std.proofs.lemmas.List.Elements.{All-contains, filter_passes}
 use Rattle.std.proofs.lemmas.Map.Keys.{IsDistinct-from_apart, apart_from_distinct}
@@ -15,22 +15,25 @@ pub contains_filter : {X : Type 0} (p : X → Bool) (xs : List X) (z : X) → p 
 contains_filter p [] z t h = absurd (Contains-none z h)
 contains_filter p (x ∷ xs) z t h =
     cond_both (p x) (x ∷ filter p xs) (filter p xs) (λ l. Contains l z)
-        (λ passes. elim (Contains-cons_cases x xs z h) [
-            inl here ↦ subst (λ v. Contains (x ∷ filter p xs) v) here (Contains-here x (filter p xs))
-          | inr later ↦ Contains-later x (filter p xs) z (contains_filter p xs z t later) ])
-        (λ fails. elim (Contains-cons_cases x xs z h) [
-            inl here ↦ (let e : true ≡ false = sym t ∙ ap p (sym here) ∙ fails in cc)
-          | inr later ↦ contains_filter p xs z t later ])
+    (λ passes. elim (Contains-cons_cases x xs z h) [
+      | inl here ↦ subst (λ v. Contains (x ∷ filter p xs) v) here (Contains-here x (filter p xs))
+      | inr later ↦ Contains-later x (filter p xs) z (contains_filter p xs z t later)
+    ])
+    (λ fails. elim (Contains-cons_cases x xs z h) [
+      | inl here ↦ (let e : true ≡ false = sym t ∙ ap p (sym here) ∙ fails in cc)
+      | inr later ↦ contains_filter p xs z t later
+    ])
 
 -- what is kept was a member
 pub contains_before_filter : {X : Type 0} (p : X → Bool) (xs : List X) (z : X) → Contains (filter p xs) z → Contains xs z
 contains_before_filter p [] z = λ h. h
 contains_before_filter p (x ∷ xs) z =
     cond_both (p x) (x ∷ filter p xs) (filter p xs) (λ l. Contains l z → Contains (x ∷ xs) z)
-        (λ passes h. elim (Contains-cons_cases x (filter p xs) z h) [
-            inl here ↦ subst (λ v. Contains (x ∷ xs) v) here (Contains-here x xs)
-          | inr later ↦ Contains-later x xs z (contains_before_filter p xs z later) ])
-        (λ fails h. Contains-later x xs z (contains_before_filter p xs z h))
+    (λ passes h. elim (Contains-cons_cases x (filter p xs) z h) [
+      | inl here ↦ subst (λ v. Contains (x ∷ xs) v) here (Contains-here x xs)
+      | inr later ↦ Contains-later x xs z (contains_before_filter p xs z later)
+    ])
+    (λ fails h. Contains-later x xs z (contains_before_filter p xs z h))
 
 -- what is kept passes
 pub passes_filter : {X : Type 0} (p : X → Bool) (xs : List X) (z : X) → Contains (filter p xs) z → p z ≡ true
@@ -52,7 +55,7 @@ is_equal Greater e = cc
 pub distinct_from_pairs : {X : Type 0} {R : X → X → Ordering} → ((x y : X) → R x y ≡ Equal → x ≡ y) → (xs : List X) → AllPairs (λ x y. x ≢ y) xs → IsDistinct (eq_by_cmp R) xs
 distinct_from_pairs {X} {R} exact xs h =
     IsDistinct-from_apart (eq_by_cmp R) xs
-        (λ i j d lt long. false_from_ne_true _ (λ t. h i j d lt long (exact _ _ (is_equal _ t))))
+    (λ i j d lt long. false_from_ne_true _ (λ t. h i j d lt long (exact _ _ (is_equal _ t))))
 
 pub pairs_from_distinct : {X : Type 0} {R : X → X → Ordering} → IsTotalOrder R → (xs : List X) → IsDistinct (eq_by_cmp R) xs → AllPairs (λ x y. x ≢ y) xs
 pairs_from_distinct {X} {R} o xs h i j d lt long same =

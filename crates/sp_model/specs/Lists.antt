@@ -8,7 +8,7 @@ use Rattle.std.specs.declared.cmp.Ordering.{Ordering}
 use Rattle.sp_model.specs.declared.found.Found.{Found}
 use Rattle.sp_model.specs.declared.gaps.Gaps.{Gaps}
 use Rattle.sp_model.specs.declared.parts.ModelParts.{ModelParts}
-use Rattle.sp_model.specs.Boxes.{points}
+use Rattle.sp_model.specs.Boxes.{points, lies_in}
 use Rattle.sp_model.specs.Cuts.{cut_of}
 use Rattle.sp_model.specs.Models.{Feasible, objective, IsOptimum, row_holds, indicator_holds, set_holds, root_of}
 
@@ -83,6 +83,10 @@ found_cmp f g = ordering_then (int_cmp f.value g.value) (lex_cmp f.point g.point
 abbrev pub constraints_hold : ModelParts → List ℤ → Bool
 constraints_hold m x =
     (list_all (λ row. row_holds row x) m.rows && list_all (λ i. indicator_holds i x) m.indicators) && list_all (λ set. set_holds set x) m.sos
+
+-- a kept point, as a test
+abbrev pub is_kept : ModelParts → ℤ → List ℤ → Bool
+is_kept m cut x = (lies_in (root_of m) x && constraints_hold m x) && int_le (objective m x) cut
 
 -- the points of the bounds in lexicographic order, kept
 abbrev pub kept : ModelParts → ℤ → List (List ℤ)

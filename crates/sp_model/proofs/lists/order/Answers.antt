@@ -9,7 +9,7 @@ use Rattle.sp_model.proofs.lists.order.Goals as goal
 pub returns-clause-sorted : goal.returns-clause-sorted
 returns-clause-sorted c =
     c.sort_unstable_by.ensures.sorted (λ f g. is_lt (found_cmp f g)) (ranks_by found_total (λ (f : Found). f))
-        (always_returns_same _ (λ a r. is_lt r ≡ is_lt (found_cmp a.0.now a.1.0.now)) _ (λ a r f' k. search rules))
+    (always_returns_same _ (λ a r. is_lt r ≡ is_lt (found_cmp a.0.now a.1.0.now)) _ (λ a r f' k. search rules))
 
 pub returns-clause-list : goal.returns-clause-list
 returns-clause-list c m cut enough near =

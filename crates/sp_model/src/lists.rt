@@ -55,3 +55,61 @@ pub fn least_value(found: &[Found]) -> Option<i128>
 {
     found.iter().map(|f| f.value).min()
 }
+
+#[cfg(test)]
+mod tests {
+    use super::*;
+    use crate::points::Point;
+    use std::alloc::{AllocError, Global};
+    use std::test::Fail;
+
+    const FOUND: [(i64, i64, i128); 6] = [
+        (1, 0, 5),
+        (0, 2, -3),
+        (0, 1, 5),
+        (-1, 7, -3),
+        (2, 2, 9),
+        (0, 10, 5),
+    ];
+
+    const LIST: [(i64, i64, i128); 6] = [
+        (-1, 7, -3),
+        (0, 2, -3),
+        (0, 1, 5),
+        (0, 10, 5),
+        (1, 0, 5),
+        (2, 2, 9),
+    ];
+
+    fn finds(alloc: Global, rows: &[(i64, i64, i128)]) -> Result<Vec<Found>, AllocError> {
+        let mut found = Vec::new(alloc);
+        for row in rows {
+            let point = Point::from_vec(vec![in alloc; row.0, row.1]?);
+            found.push(Found {
+                point,
+                value: row.2,
+            })?;
+        }
+        Ok(found)
+    }
+
+    fn are_rows(found: &[Found], rows: &[(i64, i64, i128)]) -> bool {
+        found.len() == rows.len()
+            && found.iter().zip(rows.iter()).all(|(f, row)| f.value == row.2
+                && f.point.as_slice() == [row.0, row.1].as_slice())
+    }
+
+    #[test]
+    fn found_points_become_the_list(rt: HostRuntime) -> Result<(), Fail> {
+        for (cut, count) in [(9, 6), (8, 5), (5, 5), (4, 2), (-3, 2), (-4, 0)] {
+            let list = list_from(finds(rt.alloc(), &FOUND)?, cut);
+            assert!(rt; are_rows(&list, &LIST[..count]), "at the cut {cut}");
+        }
+        let ordered = order(finds(rt.alloc(), &FOUND)?);
+        assert!(rt; are_rows(&ordered, &LIST));
+        assert_eq!(rt; least_value(&ordered), Some(-3));
+        assert_eq!(rt; least_value(&finds(rt.alloc(), &FOUND[..1])?), Some(5));
+        assert_eq!(rt; least_value(&list_from(ordered, -4)), None);
+        Ok(())
+    }
+}

@@ -1,4 +1,13 @@
+pub mod AnswerLemmas
+pub mod EnoughLemmas
+pub mod KeptLemmas
+pub mod ListLemmas
+pub mod ListOfLemmas
+pub mod MemberLemmas
+pub mod OrderLemmas
 pub mod PointLemmas
 pub mod RangeLemmas
 pub mod RisingLemmas
+pub mod SetLemmas
 pub mod SplitLemmas
+pub mod WalkLemmas

@@ -1,5 +1,5 @@
 -- The list: each kept point once, best objective first and then lexicographically.
-use Rattle.std.specs.Prelude.{◌≡◌, ◌≢◌, ◌↔◌, List, [], map, filter, All, AllPairs, Contains, Bool, ◌&&◌, Option, None, Some, ℤ, ◌≤ℤ◌, int_le}
+use Rattle.std.specs.Prelude.{◌≡◌, ◌≢◌, ◌↔◌, ℕ, List, [], ◌∷◌, map, filter, take, All, AllPairs, Contains, Bool, ◌&&◌, cond, IsTrue, Option, None, Some, ℤ, ◌≤ℤ◌, int_le}
 use Rattle.std.specs.List.{list_all}
 use Rattle.std.specs.List.Sorted.{IsStrictlySortedBy, IsSortedByKey, IsStableByKey, IsPermutation}
 use Rattle.std.specs.Ordering.{int_cmp, ordering_then}
@@ -8,7 +8,7 @@ use Rattle.std.specs.declared.cmp.Ordering.{Ordering}
 use Rattle.sp_model.specs.declared.found.Found.{Found}
 use Rattle.sp_model.specs.declared.gaps.Gaps.{Gaps}
 use Rattle.sp_model.specs.declared.parts.ModelParts.{ModelParts}
-use Rattle.sp_model.specs.Boxes.{points}
+use Rattle.sp_model.specs.Boxes.{points, lies_in}
 use Rattle.sp_model.specs.Cuts.{cut_of}
 use Rattle.sp_model.specs.Models.{Feasible, objective, IsOptimum, row_holds, indicator_holds, set_holds, root_of}
 
@@ -60,6 +60,21 @@ pub record IsFoundEnough (m : ModelParts) (cut : ℤ) (found : List Found) : Typ
   pub once : AllPairs (λ f g. f.point ≢ g.point) found
   pub enough : (x : List ℤ) → IsKept m cut x → Contains (points_of found) x
 
+-- in any order: each point with its objective, all feasible, and every feasible point is there
+pub record IsFoundAll (m : ModelParts) (found : List Found) : Type 0 where
+  pub valued : AreValued m found
+  pub feasible : All (λ f. Feasible m f.point) found
+  pub whole : (x : List ℤ) → Feasible m x → Contains (points_of found) x
+
+-- those whose value isn't above the cut, in their order
+abbrev pub found_within : ℤ → List Found → List Found
+found_within cut found = filter (λ f. int_le f.value cut) found
+
+-- in any order: none twice, and exactly the points that pass the test
+pub record IsSetOf (test : List ℤ → Bool) (xs : List (List ℤ)) : Type 0 where
+  pub once : AllPairs (λ x y. x ≢ y) xs
+  pub exact : (x : List ℤ) → Contains xs x ↔ IsTrue (test x)
+
 -- by the objective, then lexicographically, for points with their objectives
 abbrev pub found_cmp : Found → Found → Ordering
 found_cmp f g = ordering_then (int_cmp f.value g.value) (lex_cmp f.point g.point)
@@ -68,6 +83,10 @@ found_cmp f g = ordering_then (int_cmp f.value g.value) (lex_cmp f.point g.point
 abbrev pub constraints_hold : ModelParts → List ℤ → Bool
 constraints_hold m x =
     (list_all (λ row. row_holds row x) m.rows && list_all (λ i. indicator_holds i x) m.indicators) && list_all (λ set. set_holds set x) m.sos
+
+-- a kept point, as a test
+abbrev pub is_kept : ModelParts → ℤ → List ℤ → Bool
+is_kept m cut x = (lies_in (root_of m) x && constraints_hold m x) && int_le (objective m x) cut
 
 -- the points of the bounds in lexicographic order, kept
 abbrev pub kept : ModelParts → ℤ → List (List ℤ)
@@ -78,3 +97,23 @@ pub record IsSortedWalk (m : ModelParts) (cut : ℤ) (xs : List (List ℤ)) : Ty
   pub same : IsPermutation (kept m cut) xs
   pub ordered : IsSortedByKey (objective m) int_cmp xs
   pub stable : IsStableByKey (objective m) int_cmp (kept m cut) xs
+
+-- a point put before the first one whose objective isn't less than its own
+abbrev pub placed : ModelParts → List ℤ → List (List ℤ) → List (List ℤ)
+placed m x [] = x ∷ []
+placed m x (y ∷ ys) = cond (int_le (objective m x) (objective m y)) (x ∷ y ∷ ys) (y ∷ placed m x ys)
+
+-- stably ordered by the objective
+abbrev pub by_objective : ModelParts → List (List ℤ) → List (List ℤ)
+by_objective m [] = []
+by_objective m (x ∷ xs) = placed m x (by_objective m xs)
+
+-- the list as a function: the kept points in lexicographic order, stably ordered by the objective
+abbrev pub list_of : ModelParts → ℤ → List (List ℤ)
+list_of m cut = by_objective m (kept m cut)
+
+-- the first k of the list under the gaps, or all of it where it is shorter
+pub record IsBest (m : ModelParts) (gaps : Gaps) (k : ℕ) (xs : List (List ℤ)) : Type 0 where
+  pub whole : List (List ℤ)
+  pub listed : IsListWithin m gaps whole
+  pub first : xs ≡ take k whole

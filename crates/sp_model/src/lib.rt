@@ -8,6 +8,8 @@ mod found;
 mod gaps;
 mod ids;
 mod items;
+mod list_laws;
+mod lists;
 mod memory;
 mod parts;
 mod points;
@@ -21,6 +23,11 @@ pub use found::Found;
 pub use gaps::{Gap, Gaps};
 pub use ids::{RowId, VarId};
 pub use items::Items;
+pub use list_laws::{
+    best_is_unique, found_list_is_unique, kept_is_tested, list_is_list_of, list_is_unique,
+    list_within_is_unique, optimum_is_unique, parts_join, set_is_enough, sorted_walk_is_list,
+};
+pub use lists::{least_value, list_from, order};
 pub use memory::NoMemory;
 pub use parts::{Indicator, ModelParts, Row, Sos, SosKind};
 pub use points::Point;

@@ -1,0 +1,5 @@
+use Rattle.sp_model.proofs.SetLemmas.{join}
+use Rattle.sp_model.proofs.list_laws.parts_join.Goals as goal
+
+pub returns : goal.returns
+returns c = join

@@ -6,6 +6,7 @@ pub mod PointLemmas
 pub mod RisingLemmas
 pub mod WalkLemmas
 pub mod ListOfLemmas
-pub mod SetLemmas
+pub mod JoinLemmas
 pub mod AnswerLemmas
 pub mod KeptLemmas
+pub mod OptimumLemmas

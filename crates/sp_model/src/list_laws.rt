@@ -3,7 +3,7 @@ ghost use Rattle.sp_model.specs.declared.found.Found.{Found};
 ghost use Rattle.sp_model.specs.declared.gaps.Gaps.{Gaps};
 ghost use Rattle.sp_model.specs.declared.parts.ModelParts.{ModelParts};
 ghost use Rattle.sp_model.specs.Models.{IsOptimum};
-ghost use Rattle.sp_model.specs.Lists.{AreValued, IsBest, IsFoundEnough, IsFoundList, IsKept, IsList, IsListWithin, IsSetOf, IsSortedWalk, is_kept, list_of, points_of};
+ghost use Rattle.sp_model.specs.Lists.{AreValued, IsBest, IsFoundEnough, IsFoundList, IsKept, IsList, IsListWithin, IsSetOf, IsSortedWalk, is_kept, list_of, list_within_of, optimum_of, points_of};
 
 /// A law: a model has one optimum, or is shown to have none.
 pub fn optimum_is_unique()
@@ -38,6 +38,16 @@ pub fn sorted_walk_is_list()
 /// A law: a list exists, and a function gives it.
 pub fn list_is_list_of()
     ensures { (m : ModelParts) (cut : ℤ) (xs : List (List ℤ)) → IsList m cut xs ↔ (xs ≡ list_of m cut) }
+{}
+
+/// A law: each model has an optimum, or no point is feasible, and a function says which.
+pub fn optimum_is_optimum_of()
+    ensures { (m : ModelParts) (best : Option ℤ) → IsOptimum m best ↔ (best ≡ optimum_of m) }
+{}
+
+/// A law: a list under the gaps exists, and a function gives it.
+pub fn list_within_is_list_within_of()
+    ensures { (m : ModelParts) (gaps : Gaps) (xs : List (List ℤ)) → IsListWithin m gaps xs ↔ (xs ≡ list_within_of m gaps) }
 {}
 
 /// A law: whether a point is kept can be tested.

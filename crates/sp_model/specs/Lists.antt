@@ -36,6 +36,7 @@ abbrev pub IsListAt : ModelParts → Gaps → Option ℤ → List (List ℤ) →
 IsListAt m gaps None xs = xs ≡ []
 IsListAt m gaps (Some best) xs = IsList m (cut_of best gaps m.scale) xs
 
+-- the list under the gaps, at the model's own optimum
 pub record IsListWithin (m : ModelParts) (gaps : Gaps) (xs : List (List ℤ)) : Type 0 where
   pub best : Option ℤ
   pub optimum : IsOptimum m best
@@ -126,11 +127,12 @@ least_number (v ∷ vs) = Some (fold int_min v vs)
 abbrev pub optimum_of : ModelParts → Option ℤ
 optimum_of m = least_number (map (objective m) (feasible_points m))
 
--- the list under the gaps as a function
+-- the list under the gaps at this optimum
 abbrev pub list_at : ModelParts → Gaps → Option ℤ → List (List ℤ)
 list_at m gaps None = []
 list_at m gaps (Some best) = list_of m (cut_of best gaps m.scale)
 
+-- the list under the gaps as a function
 abbrev pub list_within_of : ModelParts → Gaps → List (List ℤ)
 list_within_of m gaps = list_at m gaps (optimum_of m)
 

@@ -7,27 +7,32 @@ ghost use Rattle.sp_model.specs.Lists.{AreValued, IsBest, IsFoundEnough, IsFound
 
 /// A law: a model has one optimum, or is shown to have none.
 pub fn optimum_is_unique()
-    ensures { (m : ModelParts) (best : Option ℤ) (other : Option ℤ) → IsOptimum m best → IsOptimum m other → best ≡ other }
+    ensures { (m : ModelParts) (best other : Option ℤ) →
+        IsOptimum m best → IsOptimum m other → best ≡ other }
 {}
 
 /// A law: at most one list fits a model and a cut.
 pub fn list_is_unique()
-    ensures { (m : ModelParts) (cut : ℤ) (xs : List (List ℤ)) (ys : List (List ℤ)) → IsList m cut xs → IsList m cut ys → xs ≡ ys }
+    ensures { (m : ModelParts) (cut : ℤ) (xs ys : List (List ℤ)) →
+        IsList m cut xs → IsList m cut ys → xs ≡ ys }
 {}
 
 /// A law: at most one list fits a model and its gaps, the optimum and the cut included.
 pub fn list_within_is_unique()
-    ensures { (m : ModelParts) (gaps : Gaps) (xs : List (List ℤ)) (ys : List (List ℤ)) → IsListWithin m gaps xs → IsListWithin m gaps ys → xs ≡ ys }
+    ensures { (m : ModelParts) (gaps : Gaps) (xs ys : List (List ℤ)) →
+        IsListWithin m gaps xs → IsListWithin m gaps ys → xs ≡ ys }
 {}
 
 /// A law: at most one list fits as the first `k` of the list under the gaps.
 pub fn best_is_unique()
-    ensures { (m : ModelParts) (gaps : Gaps) (k : ℕ) (xs : List (List ℤ)) (ys : List (List ℤ)) → IsBest m gaps k xs → IsBest m gaps k ys → xs ≡ ys }
+    ensures { (m : ModelParts) (gaps : Gaps) (k : ℕ) (xs ys : List (List ℤ)) →
+        IsBest m gaps k xs → IsBest m gaps k ys → xs ≡ ys }
 {}
 
 /// A law: at most one list of found points fits a model and a cut.
 pub fn found_list_is_unique()
-    ensures { (m : ModelParts) (cut : ℤ) (found : List Found) (other : List Found) → IsFoundList m cut found → IsFoundList m cut other → found ≡ other }
+    ensures { (m : ModelParts) (cut : ℤ) (found other : List Found) →
+        IsFoundList m cut found → IsFoundList m cut other → found ≡ other }
 {}
 
 /// A law: the points of the bounds in lexicographic order, kept, then stably ordered by the objective, are the list.
@@ -47,7 +52,8 @@ pub fn optimum_is_optimum_of()
 
 /// A law: a list under the gaps exists, and a function gives it.
 pub fn list_within_is_list_within_of()
-    ensures { (m : ModelParts) (gaps : Gaps) (xs : List (List ℤ)) → IsListWithin m gaps xs ↔ (xs ≡ list_within_of m gaps) }
+    ensures { (m : ModelParts) (gaps : Gaps) (xs : List (List ℤ)) →
+        IsListWithin m gaps xs ↔ (xs ≡ list_within_of m gaps) }
 {}
 
 /// A law: whether a point is kept can be tested.
@@ -57,10 +63,13 @@ pub fn kept_is_tested()
 
 /// A law: the points of two tests that no point passes both join to those of either test.
 pub fn parts_join()
-    ensures { (first : List ℤ → Bool) (second : List ℤ → Bool) (xs : List (List ℤ)) (ys : List (List ℤ)) → ((x : List ℤ) → IsTrue (first x) → IsTrue (second x) → ⊥) → IsSetOf first xs → IsSetOf second ys → IsSetOf (λ x. first x || second x) (xs ++ ys) }
+    ensures { (first second : List ℤ → Bool) (xs ys : List (List ℤ)) →
+        ((x : List ℤ) → IsTrue (first x) → IsTrue (second x) → ⊥) →
+        IsSetOf first xs → IsSetOf second ys → IsSetOf (λ x. first x || second x) (xs ++ ys) }
 {}
 
 /// A law: found points with their objectives whose points are the set of the kept ones are enough for the list.
 pub fn set_is_enough()
-    ensures { (m : ModelParts) (cut : ℤ) (found : List Found) → AreValued m found → IsSetOf (is_kept m cut) (points_of found) → IsFoundEnough m cut found }
+    ensures { (m : ModelParts) (cut : ℤ) (found : List Found) →
+        AreValued m found → IsSetOf (is_kept m cut) (points_of found) → IsFoundEnough m cut found }
 {}

@@ -1,9 +1,11 @@
 pub mod AnswerLemmas
 pub mod EnoughLemmas
+pub mod JoinLemmas
 pub mod KeptLemmas
 pub mod ListLemmas
 pub mod ListOfLemmas
 pub mod MemberLemmas
+pub mod OptimumLemmas
 pub mod OrderLemmas
 pub mod PointLemmas
 pub mod RangeLemmas

@@ -12,7 +12,7 @@ use Rattle.std.proofs.lemmas.Map.Keys.{IsDistinct-from_sorted, Less-from_sorted,
 use Rattle.sp_model.specs.declared.parts.ModelParts.{ModelParts}
 use Rattle.sp_model.specs.Boxes.{points}
 use Rattle.sp_model.specs.Models.{Feasible, objective, root_of, row_holds, indicator_holds, set_holds}
-use Rattle.sp_model.specs.Lists.{lex_cmp, point_cmp, IsKept, IsList, IsSortedWalk, constraints_hold, kept}
+use Rattle.sp_model.specs.Lists.{lex_cmp, point_cmp, IsKept, IsList, IsSortedWalk, constraints_hold, feasible_points, kept}
 use Rattle.sp_model.proofs.EnoughLemmas.{int_le_true, le_from_int_le}
 use Rattle.sp_model.proofs.ListLemmas.{lex_total, lex_exact, points_total, once_permuted}
 use Rattle.sp_model.proofs.MemberLemmas.{contains_filter, contains_before_filter, passes_filter, pairs_from_distinct}
@@ -40,19 +40,25 @@ test_from_feasible m x f =
     (list_all-from_AllPass (λ i. indicator_holds i x) m.indicators f.indicators))
     (list_all-from_AllPass (λ set. set_holds set x) m.sos f.sets)
 
+-- the points of the bounds that pass each constraint are the feasible ones
+pub contains_feasible : (m : ModelParts) (x : List ℤ) → Contains (feasible_points m) x ↔ Feasible m x
+contains_feasible m x = (
+  λ h.
+      feasible_from_test m x (contains_before_filter (constraints_hold m) (points (root_of m)) x h) (passes_filter (constraints_hold m) (points (root_of m)) x h),
+  λ feasible.
+      contains_filter (constraints_hold m) (points (root_of m)) x (test_from_feasible m x feasible) ((contains_points (root_of m) x).1 feasible.within),
+)
+
 -- the walk keeps exactly the kept points
 pub contains_kept : (m : ModelParts) (cut : ℤ) (x : List ℤ) → Contains (kept m cut) x ↔ IsKept m cut x
 contains_kept m cut x = (
   λ h.
-      let held : Contains (filter (constraints_hold m) (points (root_of m))) x =
-      contains_before_filter (λ y. int_le (objective m y) cut) (filter (constraints_hold m) (points (root_of m))) x h in
       record {
-        feasible = feasible_from_test m x (contains_before_filter (constraints_hold m) (points (root_of m)) x held) (passes_filter (constraints_hold m) (points (root_of m)) x held);
-        near = le_from_int_le (objective m x) cut (passes_filter (λ y. int_le (objective m y) cut) (filter (constraints_hold m) (points (root_of m))) x h);
+        feasible = (contains_feasible m x).0 (contains_before_filter (λ y. int_le (objective m y) cut) (feasible_points m) x h);
+        near = le_from_int_le (objective m x) cut (passes_filter (λ y. int_le (objective m y) cut) (feasible_points m) x h);
       },
   λ k.
-      contains_filter (λ y. int_le (objective m y) cut) (filter (constraints_hold m) (points (root_of m))) x (int_le_true (objective m x) cut k.near)
-      (contains_filter (constraints_hold m) (points (root_of m)) x (test_from_feasible m x k.feasible) ((contains_points (root_of m) x).1 k.feasible.within)),
+      contains_filter (λ y. int_le (objective m y) cut) (feasible_points m) x (int_le_true (objective m x) cut k.near) ((contains_feasible m x).1 k.feasible),
 )
 
 -- and in lexicographic order

@@ -1,5 +1,6 @@
 -- The list: each kept point once, best objective first and then lexicographically.
-use Rattle.std.specs.Prelude.{◌≡◌, ◌≢◌, ◌↔◌, ℕ, List, [], ◌∷◌, map, filter, take, All, AllPairs, Contains, Bool, ◌&&◌, cond, IsTrue, Option, None, Some, ℤ, ◌≤ℤ◌, int_le}
+use Rattle.std.specs.Prelude.{◌≡◌, ◌≢◌, ◌↔◌, ℕ, List, [], ◌∷◌, map, filter, take, fold, All, AllPairs, Contains, Bool, ◌&&◌, cond, IsTrue, Option, None, Some, ℤ, ◌≤ℤ◌, int_le}
+use Rattle.std.specs.Int.{int_min}
 use Rattle.std.specs.List.{list_all}
 use Rattle.std.specs.List.Sorted.{IsStrictlySortedBy, IsSortedByKey, IsStableByKey, IsPermutation}
 use Rattle.std.specs.Ordering.{int_cmp, ordering_then}
@@ -35,6 +36,7 @@ abbrev pub IsListAt : ModelParts → Gaps → Option ℤ → List (List ℤ) →
 IsListAt m gaps None xs = xs ≡ []
 IsListAt m gaps (Some best) xs = IsList m (cut_of best gaps m.scale) xs
 
+-- the list under the gaps, at the model's own optimum
 pub record IsListWithin (m : ModelParts) (gaps : Gaps) (xs : List (List ℤ)) : Type 0 where
   pub best : Option ℤ
   pub optimum : IsOptimum m best
@@ -88,9 +90,13 @@ constraints_hold m x =
 abbrev pub is_kept : ModelParts → ℤ → List ℤ → Bool
 is_kept m cut x = (lies_in (root_of m) x && constraints_hold m x) && int_le (objective m x) cut
 
--- the points of the bounds in lexicographic order, kept
+-- the points of the bounds in lexicographic order, without those that aren't feasible
+abbrev pub feasible_points : ModelParts → List (List ℤ)
+feasible_points m = filter (constraints_hold m) (points (root_of m))
+
+-- and without those above the cut
 abbrev pub kept : ModelParts → ℤ → List (List ℤ)
-kept m cut = filter (λ x. int_le (objective m x) cut) (filter (constraints_hold m) (points (root_of m)))
+kept m cut = filter (λ x. int_le (objective m x) cut) (feasible_points m)
 
 -- the kept points in lexicographic order, stably ordered by the objective
 pub record IsSortedWalk (m : ModelParts) (cut : ℤ) (xs : List (List ℤ)) : Type 0 where
@@ -111,6 +117,24 @@ by_objective m (x ∷ xs) = placed m x (by_objective m xs)
 -- the list as a function: the kept points in lexicographic order, stably ordered by the objective
 abbrev pub list_of : ModelParts → ℤ → List (List ℤ)
 list_of m cut = by_objective m (kept m cut)
+
+-- the least of the numbers, none where there are none
+abbrev pub least_number : List ℤ → Option ℤ
+least_number [] = None
+least_number (v ∷ vs) = Some (fold int_min v vs)
+
+-- the optimum as a function
+abbrev pub optimum_of : ModelParts → Option ℤ
+optimum_of m = least_number (map (objective m) (feasible_points m))
+
+-- the list under the gaps at this optimum
+abbrev pub list_at : ModelParts → Gaps → Option ℤ → List (List ℤ)
+list_at m gaps None = []
+list_at m gaps (Some best) = list_of m (cut_of best gaps m.scale)
+
+-- the list under the gaps as a function
+abbrev pub list_within_of : ModelParts → Gaps → List (List ℤ)
+list_within_of m gaps = list_at m gaps (optimum_of m)
 
 -- the first k of the list under the gaps, or all of it where it is shorter
 pub record IsBest (m : ModelParts) (gaps : Gaps) (k : ℕ) (xs : List (List ℤ)) : Type 0 where

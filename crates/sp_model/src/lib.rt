@@ -25,7 +25,8 @@ pub use ids::{RowId, VarId};
 pub use items::Items;
 pub use list_laws::{
     best_is_unique, found_list_is_unique, kept_is_tested, list_is_list_of, list_is_unique,
-    list_within_is_unique, optimum_is_unique, parts_join, set_is_enough, sorted_walk_is_list,
+    list_within_is_list_within_of, list_within_is_unique, optimum_is_optimum_of, optimum_is_unique,
+    parts_join, set_is_enough, sorted_walk_is_list,
 };
 pub use lists::{least_value, list_from, order};
 pub use memory::NoMemory;

@@ -1,4 +1,4 @@
-ghost use Rattle.std.specs.Prelude.{◌≡◌, ◌↔◌, [], filter, All, Any, ℤ, ◌≤ℤ◌, int_le, IsNone, IfSome, IsPermutation, IsSorted};
+ghost use Rattle.std.specs.Prelude.{◌≡◌, ◌↔◌, [], All, Any, ℤ, ◌≤ℤ◌, IsNone, IfSome, IsPermutation, IsSorted};
 ghost use Rattle.sp_model.specs.declared.parts.ModelParts.{ModelParts};
 ghost use Rattle.sp_model.specs.Models.{IsOptimum};
 ghost use Rattle.sp_model.specs.Lists.{IsFoundAll, IsFoundEnough, IsFoundList, found_cmp, found_within};
@@ -26,9 +26,8 @@ fn keep_within(found: &mut Vec<Found>, cut: i128)
 pub fn order(mut found: Vec<Found>) -> Vec<Found>
     ensures same { IsPermutation found.items result.items }
     ensures sorted { IsSorted found_cmp result.items }
-
-    // none is above the cut
-    ensures list { (m : ModelParts) (cut : ℤ) → IsFoundEnough m cut found.items → All (λ f. f.value ≤ℤ cut) found.items → IsFoundList m cut result.items }
+    ensures list { (m : ModelParts) (cut : ℤ) →
+        IsFoundEnough m cut found.items → All (λ f. f.value ≤ℤ cut) found.items → IsFoundList m cut result.items }
 {
     found.sort_unstable_by(compare);
     found

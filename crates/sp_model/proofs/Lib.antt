@@ -1,3 +1,4 @@
+pub mod CutLemmas
 pub mod PointLemmas
 pub mod RangeLemmas
 pub mod RisingLemmas

@@ -145,10 +145,10 @@ contains_points b x = (contained_within b x, points_contain b x)
 
 -- ---- the test
 
-le_test : (a b : ℤ) → a ≤ℤ b → int_le a b ≡ true
+pub le_test : (a b : ℤ) → a ≤ℤ b → int_le a b ≡ true
 le_test a b h = grind (arith, ints)
 
-test_le : (a b : ℤ) → int_le a b ≡ true → a ≤ℤ b
+pub test_le : (a b : ℤ) → int_le a b ≡ true → a ≤ℤ b
 test_le a b h = grind (arith, ints)
 
 within_test : (b : Bounds) (x : List ℤ) → IsWithin b x → lies_in b x ≡ true

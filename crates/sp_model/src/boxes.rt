@@ -1,4 +1,4 @@
-ghost use Rattle.std.specs.Prelude.{◌≡◌, ◌+◌, ◌*◌, ◌^◌, ◌<◌, ◌≤◌, ◌↔◌, length, slice_set, IfOk, IsTrue, SomeIff, ◌<ℤ◌};
+ghost use Rattle.std.specs.Prelude.{◌≡◌, ◌+◌, ◌*◌, ◌^◌, ◌<◌, ◌≤◌, ◌↔◌, length, slice_set, IfOk, IsTrue, SomeIff, ◌<ℤ◌, ◌≤ℤ◌};
 ghost use Rattle.sp_model.specs.Boxes.{ranges, range_at, width_of, point_count, below, above, CanSplit};
 
 use crate::ids::VarId;
@@ -63,6 +63,17 @@ impl BoxOf {
         }
     }
 
+    /// Whether `split` may be called: the variable is the box's, and both parts get a part of its range.
+    pub fn can_split(&self, var: VarId, at: i64) -> bool
+        ensures { IsTrue result ↔ CanSplit self.now var at }
+    {
+        if var.index() < self.len() {
+            is_inside(&self.range(var), &at)
+        } else {
+            false
+        }
+    }
+
     /// The part with the variable's values up to `at`, and the part with those above it.
     pub fn split(&self, alloc: Global, var: VarId, at: i64) -> Result<(BoxOf, BoxOf), NoMemory>
         requires { CanSplit self.now var at }
@@ -96,6 +107,13 @@ impl BoxOf {
         let upper = copy_of(alloc, self.upper.as_slice())?;
         Ok(BoxOf { lower, upper })
     }
+}
+
+/// Whether the number is in the range, and not its greatest.
+fn is_inside(range: &(i64, i64), at: &i64) -> bool
+    ensures { IsTrue result ↔ ((range.now.0 ≤ℤ at.now) × (at.now <ℤ range.now.1)) }
+{
+    range.0 <= *at && *at < range.1
 }
 
 /// The same numbers.
@@ -160,4 +178,76 @@ fn product_of_widths(lower: &[i64], upper: &[i64]) -> Option<u128>
         }
     }
     Some(count)
+}
+
+#[cfg(test)]
+mod tests {
+    use super::*;
+    use std::alloc::AllocError;
+    use std::test::Fail;
+
+    /// The box of these ranges.
+    fn box_of(alloc: Global, ranges: &[(i64, i64)]) -> Result<BoxOf, AllocError> {
+        let mut lower = Vec::new(alloc);
+        let mut upper = Vec::new(alloc);
+        for (least, greatest) in ranges {
+            lower.push(*least)?;
+            upper.push(*greatest)?;
+        }
+        Ok(BoxOf {
+            lower: Items::from_vec(lower),
+            upper: Items::from_vec(upper),
+        })
+    }
+
+    #[test]
+    fn counts(rt: HostRuntime) -> Result<(), Fail> {
+        let all = (i64::MIN, i64::MAX);
+        let mut many = [(0, 1); 2_000];
+        assert_eq!(rt; box_of(rt.alloc(), &many)?.count(), None);
+        many[1_999] = (1, 0);
+        assert_eq!(rt; box_of(rt.alloc(), &many)?.count(), Some(0));
+        let cases: [(&[(i64, i64)], Option<u128>); 7] = [
+            (&[], Some(1)),
+            (&[(5, 4)], Some(0)),
+            (&[(0, 9), (-5, 5)], Some(110)),
+            (&[all], Some(18_446_744_073_709_551_616)),
+            (&[all, all], None),
+            (&[all, all, (3, 2)], Some(0)),
+            (
+                &[
+                    (i64::MIN, i64::MAX - 1),
+                    (1, 274_177),
+                    (0, 67_280_421_310_720),
+                ],
+                Some(u128::MAX),
+            ),
+        ];
+        for (ranges, want) in cases {
+            let counted = box_of(rt.alloc(), ranges)?;
+            assert_eq!(rt; counted.count(), want, "{ranges:?}");
+            assert_eq!(rt; counted.has_points(), want != Some(0));
+        }
+        Ok(())
+    }
+
+    #[test]
+    fn splits(rt: HostRuntime) -> Result<(), Fail> {
+        let whole = box_of(rt.alloc(), &[(0, 9), (-5, 5), (2, 2)])?;
+        let var = VarId::new(1);
+        assert!(rt; !whole.can_split(var, -6));
+        assert!(rt; !whole.can_split(var, 5));
+        assert!(rt; !whole.can_split(VarId::new(2), 2));
+        assert!(rt; !whole.can_split(VarId::new(3), 0));
+        assert!(rt; whole.can_split(var, -1));
+        let (low, high) = whole.split(rt.alloc(), var, -1)?;
+        assert_eq!(rt; low.len(), 3);
+        assert_eq!(rt; high.len(), 3);
+        assert_eq!(rt; low.range(var), (-5, -1));
+        assert_eq!(rt; high.range(var), (0, 5));
+        assert_eq!(rt; low.range(VarId::new(0)), (0, 9));
+        assert_eq!(rt; low.count(), Some(50));
+        assert_eq!(rt; high.count(), Some(60));
+        Ok(())
+    }
 }

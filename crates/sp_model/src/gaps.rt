@@ -100,3 +100,95 @@ fn quotient(p: u128, base: u128, divisor: u128) -> u128
         .saturating_add(rest)
         .min(FARTHEST)
 }
+
+#[cfg(test)]
+mod tests {
+    use super::*;
+
+    /// The ceiling.
+    const TOP: i128 = 1_000_000_000_000_000_000_000_000_000_000_000_000;
+
+    /// No gap.
+    const FREE: Gap = Gap::Unlimited;
+
+    fn of(p: u64, s: u8) -> Gap {
+        Gap::Of { p, s }
+    }
+
+    // The cuts were computed with fractions, by the definition, in another language.
+    #[test]
+    fn cuts(rt: HostRuntime) {
+        let most = 999_999_999_999;
+        let cases = [
+            (0, of(0, 0), FREE, 0, 0),
+            (TOP, of(most, 0), FREE, 30, TOP),
+            (
+                -TOP,
+                of(most, 0),
+                FREE,
+                0,
+                -999_999_999_999_999_999_999_999_000_000_000_001,
+            ),
+            (-TOP, of(most, 0), FREE, 30, TOP),
+            (
+                -TOP,
+                of(most, 12),
+                FREE,
+                30,
+                -999_999_000_000_000_001_000_000_000_000_000_000,
+            ),
+            (
+                -TOP,
+                of(most, 12),
+                FREE,
+                12,
+                -999_999_999_999_999_999_999_999_000_000_000_001,
+            ),
+            (-TOP, of(most, 12), FREE, 0, -TOP),
+            (
+                -TOP,
+                FREE,
+                of(most, 12),
+                0,
+                -1_000_000_000_000_000_000_000_000,
+            ),
+            (-TOP, FREE, of(999_999_999_998, 0), 0, TOP),
+            (
+                1 - TOP,
+                FREE,
+                of(most, 12),
+                30,
+                -1_000_000_000_000_000_000_000_000,
+            ),
+            (TOP, FREE, of(1, 12), 0, TOP),
+            (
+                -TOP,
+                of(most, 11),
+                of(999_999_999_997, 12),
+                30,
+                -999_990_000_000_000_010_000_000_000_000_000_000,
+            ),
+            (-7, FREE, of(25, 2), 0, -6),
+            (7, FREE, of(25, 2), 0, 8),
+            (123_456_789, of(25, 1), of(1, 6), 2, 123_456_912),
+            (TOP - 10, of(5, 0), FREE, 0, TOP - 5),
+            (-5, FREE, FREE, 0, TOP),
+            (-8, of(15, 1), of(2, 0), 0, -7),
+        ];
+        for (best, abs, rel, scale, want) in cases {
+            let size: i128 = best;
+            assert!(rt; abs.is_lawful());
+            assert!(rt; rel.is_lawful());
+            assert!(rt; scale <= 30);
+            assert!(rt; size.unsigned_abs() <= 1_000_000_000_000_000_000_000_000_000_000_000_000);
+            assert_eq!(rt;
+                cut(best, &Gaps { abs, rel }, scale),
+                want,
+                "{best} {abs:?} {rel:?} {scale}"
+            );
+        }
+        assert!(rt; !of(1_000_000_000_000, 0).is_lawful());
+        assert!(rt; !of(0, 13).is_lawful());
+        assert_eq!(rt; cut(-3, &Gaps::only_optima(), 0), -3);
+    }
+}

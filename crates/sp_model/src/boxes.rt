@@ -200,54 +200,94 @@ mod tests {
         })
     }
 
+    /// Every number of 64 bits.
+    const ALL: (i64, i64) = (i64::MIN, i64::MAX);
+
+    /// Ranges, and how many points their box has.
+    const COUNTS: [(&[(i64, i64)], Option<u128>); 7] = [
+        (&[], Some(1)),
+        (&[(5, 4)], Some(0)),
+        (&[(0, 9), (-5, 5)], Some(110)),
+        (&[ALL], Some(18_446_744_073_709_551_616)),
+        (&[ALL, ALL], None),
+        (&[ALL, ALL, (3, 2)], Some(0)),
+        (
+            &[
+                (i64::MIN, i64::MAX - 1),
+                (1, 274_177),
+                (0, 67_280_421_310_720),
+            ],
+            Some(u128::MAX),
+        ),
+    ];
+
     #[test]
     fn counts(rt: HostRuntime) -> Result<(), Fail> {
-        let all = (i64::MIN, i64::MAX);
-        let mut many = [(0, 1); 2_000];
-        assert_eq!(rt; box_of(rt.alloc(), &many)?.count(), None);
-        many[1_999] = (1, 0);
-        assert_eq!(rt; box_of(rt.alloc(), &many)?.count(), Some(0));
-        let cases: [(&[(i64, i64)], Option<u128>); 7] = [
-            (&[], Some(1)),
-            (&[(5, 4)], Some(0)),
-            (&[(0, 9), (-5, 5)], Some(110)),
-            (&[all], Some(18_446_744_073_709_551_616)),
-            (&[all, all], None),
-            (&[all, all, (3, 2)], Some(0)),
-            (
-                &[
-                    (i64::MIN, i64::MAX - 1),
-                    (1, 274_177),
-                    (0, 67_280_421_310_720),
-                ],
-                Some(u128::MAX),
-            ),
-        ];
-        for (ranges, want) in cases {
-            let counted = box_of(rt.alloc(), ranges)?;
-            assert_eq!(rt; counted.count(), want, "{ranges:?}");
-            assert_eq!(rt; counted.has_points(), want != Some(0));
+        for (ranges, want) in COUNTS {
+            let made = box_of(rt.alloc(), ranges)?;
+            assert_eq!(rt; made.count(), want, "{ranges:?}");
+            assert_eq!(rt; made.has_points(), want != Some(0));
         }
         Ok(())
     }
 
     #[test]
+    fn counts_many(rt: HostRuntime) -> Result<(), Fail> {
+        let mut many = [(0, 1); 2_000];
+        assert_eq!(rt; box_of(rt.alloc(), &many)?.count(), None);
+        many[1_999] = (1, 0);
+        assert_eq!(rt; box_of(rt.alloc(), &many)?.count(), Some(0));
+        Ok(())
+    }
+
+    /// Whether the box has three variables, this range for one of them, and so many points.
+    fn shows(part: &BoxOf, place: u32, range: (i64, i64), count: u128) -> bool {
+        let var = VarId::new(place);
+        part.len() == 3
+            && var.index() < part.len()
+            && part.range(var) == range
+            && part.count() == Some(count)
+    }
+
+    /// Whether a split is lawful, and gives two boxes with these ranges of the variable and so many points.
+    fn divides(
+        alloc: Global,
+        whole: &BoxOf,
+        place: u32,
+        at: i64,
+        lower: ((i64, i64), u128),
+        upper: ((i64, i64), u128),
+    ) -> Result<bool, NoMemory> {
+        let var = VarId::new(place);
+        if !whole.can_split(var, at) {
+            return Ok(false);
+        }
+        let (low, high) = whole.split(alloc, var, at)?;
+        Ok(shows(&low, place, lower.0, lower.1) && shows(&high, place, upper.0, upper.1))
+    }
+
+    /// A variable's place and a number, and whether the box of the test can be split there.
+    const PLACES: [(u32, i64, bool); 6] = [
+        (1, -6, false),
+        (1, -5, true),
+        (1, 4, true),
+        (1, 5, false),
+        (2, 2, false),
+        (3, 0, false),
+    ];
+
+    #[test]
     fn splits(rt: HostRuntime) -> Result<(), Fail> {
         let whole = box_of(rt.alloc(), &[(0, 9), (-5, 5), (2, 2)])?;
-        let var = VarId::new(1);
-        assert!(rt; !whole.can_split(var, -6));
-        assert!(rt; !whole.can_split(var, 5));
-        assert!(rt; !whole.can_split(VarId::new(2), 2));
-        assert!(rt; !whole.can_split(VarId::new(3), 0));
-        assert!(rt; whole.can_split(var, -1));
-        let (low, high) = whole.split(rt.alloc(), var, -1)?;
-        assert_eq!(rt; low.len(), 3);
-        assert_eq!(rt; high.len(), 3);
-        assert_eq!(rt; low.range(var), (-5, -1));
-        assert_eq!(rt; high.range(var), (0, 5));
-        assert_eq!(rt; low.range(VarId::new(0)), (0, 9));
-        assert_eq!(rt; low.count(), Some(50));
-        assert_eq!(rt; high.count(), Some(60));
+        for (place, at, want) in PLACES {
+            assert_eq!(rt;
+                whole.can_split(VarId::new(place), at),
+                want,
+                "{place} {at}"
+            );
+        }
+        assert!(rt; divides(rt.alloc(), &whole, 1, -1, ((-5, -1), 50), ((0, 5), 60))?);
+        assert!(rt; divides(rt.alloc(), &whole, 0, 0, ((0, 0), 11), ((1, 9), 99))?);
         Ok(())
     }
 }

@@ -108,87 +108,122 @@ mod tests {
     /// The ceiling.
     const TOP: i128 = 1_000_000_000_000_000_000_000_000_000_000_000_000;
 
+    /// The greatest number of twelve digits.
+    const MOST: u64 = 999_999_999_999;
+
     /// No gap.
     const FREE: Gap = Gap::Unlimited;
 
-    fn of(p: u64, s: u8) -> Gap {
-        Gap::Of { p, s }
+    /// No distance.
+    const NONE: Gap = Gap::Of { p: 0, s: 0 };
+
+    /// The greatest gap, with so many digits behind the point.
+    const MOST_0: Gap = Gap::Of { p: MOST, s: 0 };
+
+    const MOST_11: Gap = Gap::Of { p: MOST, s: 11 };
+
+    const MOST_12: Gap = Gap::Of { p: MOST, s: 12 };
+
+    /// An optimum, the two gaps, the scale, and the cut, computed with fractions by the definition in another language.
+    const CASES: [(i128, Gap, Gap, u8, i128); 18] = [
+        (0, NONE, FREE, 0, 0),
+        (TOP, MOST_0, FREE, 30, TOP),
+        (
+            -TOP,
+            MOST_0,
+            FREE,
+            0,
+            -999_999_999_999_999_999_999_999_000_000_000_001,
+        ),
+        (-TOP, MOST_0, FREE, 30, TOP),
+        (
+            -TOP,
+            MOST_12,
+            FREE,
+            30,
+            -999_999_000_000_000_001_000_000_000_000_000_000,
+        ),
+        (
+            -TOP,
+            MOST_12,
+            FREE,
+            12,
+            -999_999_999_999_999_999_999_999_000_000_000_001,
+        ),
+        (-TOP, MOST_12, FREE, 0, -TOP),
+        (TOP - 10, Gap::Of { p: 5, s: 0 }, FREE, 0, TOP - 5),
+        (-TOP, FREE, MOST_12, 0, -1_000_000_000_000_000_000_000_000),
+        (-TOP, FREE, MOST_0, 0, TOP),
+        (
+            1 - TOP,
+            FREE,
+            MOST_12,
+            30,
+            -1_000_000_000_000_000_000_000_000,
+        ),
+        (TOP, FREE, Gap::Of { p: 1, s: 12 }, 0, TOP),
+        (
+            -TOP,
+            MOST_11,
+            Gap::Of {
+                p: 999_999_999_997,
+                s: 12,
+            },
+            30,
+            -999_990_000_000_000_010_000_000_000_000_000_000,
+        ),
+        (-7, FREE, Gap::Of { p: 25, s: 2 }, 0, -6),
+        (7, FREE, Gap::Of { p: 25, s: 2 }, 0, 8),
+        (
+            123_456_789,
+            Gap::Of { p: 25, s: 1 },
+            Gap::Of { p: 1, s: 6 },
+            2,
+            123_456_912,
+        ),
+        (-8, Gap::Of { p: 15, s: 1 }, Gap::Of { p: 2, s: 0 }, 0, -7),
+        (-5, FREE, FREE, 0, TOP),
+    ];
+
+    /// The cut, or `None` where it isn't asked for by the rules.
+    fn cut_at(best: i128, abs: Gap, rel: Gap, scale: u8) -> Option<i128> {
+        if best.unsigned_abs() <= 1_000_000_000_000_000_000_000_000_000_000_000_000
+            && scale <= 30
+            && abs.is_lawful()
+            && rel.is_lawful()
+        {
+            Some(cut(best, &Gaps { abs, rel }, scale))
+        } else {
+            None
+        }
     }
 
-    // The cuts were computed with fractions, by the definition, in another language.
     #[test]
     fn cuts(rt: HostRuntime) {
-        let most = 999_999_999_999;
-        let cases = [
-            (0, of(0, 0), FREE, 0, 0),
-            (TOP, of(most, 0), FREE, 30, TOP),
-            (
-                -TOP,
-                of(most, 0),
-                FREE,
-                0,
-                -999_999_999_999_999_999_999_999_000_000_000_001,
-            ),
-            (-TOP, of(most, 0), FREE, 30, TOP),
-            (
-                -TOP,
-                of(most, 12),
-                FREE,
-                30,
-                -999_999_000_000_000_001_000_000_000_000_000_000,
-            ),
-            (
-                -TOP,
-                of(most, 12),
-                FREE,
-                12,
-                -999_999_999_999_999_999_999_999_000_000_000_001,
-            ),
-            (-TOP, of(most, 12), FREE, 0, -TOP),
-            (
-                -TOP,
-                FREE,
-                of(most, 12),
-                0,
-                -1_000_000_000_000_000_000_000_000,
-            ),
-            (-TOP, FREE, of(999_999_999_998, 0), 0, TOP),
-            (
-                1 - TOP,
-                FREE,
-                of(most, 12),
-                30,
-                -1_000_000_000_000_000_000_000_000,
-            ),
-            (TOP, FREE, of(1, 12), 0, TOP),
-            (
-                -TOP,
-                of(most, 11),
-                of(999_999_999_997, 12),
-                30,
-                -999_990_000_000_000_010_000_000_000_000_000_000,
-            ),
-            (-7, FREE, of(25, 2), 0, -6),
-            (7, FREE, of(25, 2), 0, 8),
-            (123_456_789, of(25, 1), of(1, 6), 2, 123_456_912),
-            (TOP - 10, of(5, 0), FREE, 0, TOP - 5),
-            (-5, FREE, FREE, 0, TOP),
-            (-8, of(15, 1), of(2, 0), 0, -7),
-        ];
-        for (best, abs, rel, scale, want) in cases {
-            let size: i128 = best;
-            assert!(rt; abs.is_lawful());
-            assert!(rt; rel.is_lawful());
-            assert!(rt; scale <= 30);
-            assert!(rt; size.unsigned_abs() <= 1_000_000_000_000_000_000_000_000_000_000_000_000);
+        for (best, abs, rel, scale, want) in CASES {
             assert_eq!(rt;
-                cut(best, &Gaps { abs, rel }, scale),
-                want,
+                cut_at(best, abs, rel, scale),
+                Some(want),
                 "{best} {abs:?} {rel:?} {scale}"
             );
         }
-        assert!(rt; !of(1_000_000_000_000, 0).is_lawful());
-        assert!(rt; !of(0, 13).is_lawful());
+    }
+
+    #[test]
+    fn gaps_are_tested(rt: HostRuntime) {
+        assert_eq!(rt;
+            cut_at(
+                0,
+                Gap::Of {
+                    p: 1_000_000_000_000,
+                    s: 0
+                },
+                FREE,
+                0
+            ),
+            None
+        );
+        assert_eq!(rt; cut_at(0, FREE, Gap::Of { p: 0, s: 13 }, 0), None);
         assert_eq!(rt; cut(-3, &Gaps::only_optima(), 0), -3);
     }
 }

@@ -1,4 +1,5 @@
 pub mod AnswerLemmas
+pub mod CutLemmas
 pub mod EnoughLemmas
 pub mod JoinLemmas
 pub mod KeptLemmas

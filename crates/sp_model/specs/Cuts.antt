@@ -1,5 +1,5 @@
 -- The cut: how great the objective of a listed point may be.
-use Rattle.std.specs.Prelude.{ℕ, ◌*◌, ◌/◌, ◌^◌, ◌<◌, ◌≤◌, cond, ℤ, pos, ◌+ℤ◌, int_le, unsigned_abs}
+use Rattle.std.specs.Prelude.{ℕ, ◌*◌, ◌/◌, ◌^◌, ◌<◌, ◌≤◌, cond, ℤ, pos, ◌+ℤ◌, ◌-ℤ◌, ◌*ℤ◌, ◌≤ℤ◌, int_le, unsigned_abs}
 use Rattle.sp_model.specs.declared.gaps.Gap.{Gap}
 use Rattle.sp_model.specs.declared.gaps.Gap.TheVariants.{Unlimited, Of}
 use Rattle.sp_model.specs.declared.gaps.Gaps.{Gaps}
@@ -25,3 +25,15 @@ cut_of best gaps scale = least_of (least_of (part best gaps.abs (10 ^ scale)) (p
 abbrev pub IsGap : Gap → Type 0
 IsGap Unlimited = Unit {0}
 IsGap (Of p s) = (p < 10 ^ 12) × (s ≤ 12)
+
+-- z is above best by at most the gap p / 10^s, as a multiple of base
+abbrev pub IsWithinGap : ℤ → Gap → ℕ → ℤ → Type 0
+IsWithinGap best Unlimited base z = Unit {0}
+IsWithinGap best (Of p s) base z = ((z -ℤ best) *ℤ pos (10 ^ s)) ≤ℤ pos (p * base)
+
+-- z is above best by at most the absolute gap, in units of the objective, and at most the relative gap, as a multiple of
+-- the magnitude of best; and z isn't above the ceiling
+pub record IsWithinGaps (best : ℤ) (gaps : Gaps) (scale : ℕ) (z : ℤ) : Type 0 where
+  pub abs : IsWithinGap best gaps.abs (10 ^ scale) z
+  pub rel : IsWithinGap best gaps.rel (unsigned_abs best) z
+  pub small : z ≤ℤ ceiling

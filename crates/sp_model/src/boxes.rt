@@ -1,4 +1,4 @@
-ghost use Rattle.std.specs.Prelude.{◌≡◌, ◌+◌, ◌*◌, ◌^◌, ◌<◌, ◌≤◌, ◌↔◌, length, slice_set, IfOk, IsTrue, SomeIff, ◌<ℤ◌};
+ghost use Rattle.std.specs.Prelude.{◌≡◌, ◌+◌, ◌*◌, ◌^◌, ◌<◌, ◌≤◌, ◌↔◌, length, slice_set, IfOk, IsTrue, SomeIff, ◌<ℤ◌, ◌≤ℤ◌};
 ghost use Rattle.sp_model.specs.Boxes.{ranges, range_at, width_of, point_count, below, above, CanSplit};
 
 use crate::ids::VarId;
@@ -63,6 +63,17 @@ impl BoxOf {
         }
     }
 
+    /// Whether `split` may be called: the variable is the box's, and both parts get a part of its range.
+    pub fn can_split(&self, var: VarId, at: i64) -> bool
+        ensures { IsTrue result ↔ CanSplit self.now var at }
+    {
+        if var.index() < self.len() {
+            is_inside(&self.range(var), &at)
+        } else {
+            false
+        }
+    }
+
     /// The part with the variable's values up to `at`, and the part with those above it.
     pub fn split(&self, alloc: Global, var: VarId, at: i64) -> Result<(BoxOf, BoxOf), NoMemory>
         requires { CanSplit self.now var at }
@@ -96,6 +107,13 @@ impl BoxOf {
         let upper = copy_of(alloc, self.upper.as_slice())?;
         Ok(BoxOf { lower, upper })
     }
+}
+
+/// Whether the number is in the range, and not its greatest.
+fn is_inside(range: &(i64, i64), at: &i64) -> bool
+    ensures { IsTrue result ↔ ((range.now.0 ≤ℤ at.now) × (at.now <ℤ range.now.1)) }
+{
+    range.0 <= *at && *at < range.1
 }
 
 /// The same numbers.
@@ -160,4 +178,116 @@ fn product_of_widths(lower: &[i64], upper: &[i64]) -> Option<u128>
         }
     }
     Some(count)
+}
+
+#[cfg(test)]
+mod tests {
+    use super::*;
+    use std::alloc::AllocError;
+    use std::test::Fail;
+
+    /// The box of these ranges.
+    fn box_of(alloc: Global, ranges: &[(i64, i64)]) -> Result<BoxOf, AllocError> {
+        let mut lower = Vec::new(alloc);
+        let mut upper = Vec::new(alloc);
+        for (least, greatest) in ranges {
+            lower.push(*least)?;
+            upper.push(*greatest)?;
+        }
+        Ok(BoxOf {
+            lower: Items::from_vec(lower),
+            upper: Items::from_vec(upper),
+        })
+    }
+
+    /// Every number of 64 bits.
+    const ALL: (i64, i64) = (i64::MIN, i64::MAX);
+
+    /// Ranges, and how many points their box has.
+    const COUNTS: [(&[(i64, i64)], Option<u128>); 7] = [
+        (&[], Some(1)),
+        (&[(5, 4)], Some(0)),
+        (&[(0, 9), (-5, 5)], Some(110)),
+        (&[ALL], Some(18_446_744_073_709_551_616)),
+        (&[ALL, ALL], None),
+        (&[ALL, ALL, (3, 2)], Some(0)),
+        (
+            &[
+                (i64::MIN, i64::MAX - 1),
+                (1, 274_177),
+                (0, 67_280_421_310_720),
+            ],
+            Some(u128::MAX),
+        ),
+    ];
+
+    #[test]
+    fn counts(rt: HostRuntime) -> Result<(), Fail> {
+        for (ranges, want) in COUNTS {
+            let made = box_of(rt.alloc(), ranges)?;
+            assert_eq!(rt; made.count(), want, "{ranges:?}");
+            assert_eq!(rt; made.has_points(), want != Some(0));
+        }
+        Ok(())
+    }
+
+    #[test]
+    fn counts_many(rt: HostRuntime) -> Result<(), Fail> {
+        let mut many = [(0, 1); 2_000];
+        assert_eq!(rt; box_of(rt.alloc(), &many)?.count(), None);
+        many[1_999] = (1, 0);
+        assert_eq!(rt; box_of(rt.alloc(), &many)?.count(), Some(0));
+        Ok(())
+    }
+
+    /// Whether the box has three variables, this range for one of them, and so many points.
+    fn shows(part: &BoxOf, place: u32, range: (i64, i64), count: u128) -> bool {
+        let var = VarId::new(place);
+        part.len() == 3
+            && var.index() < part.len()
+            && part.range(var) == range
+            && part.count() == Some(count)
+    }
+
+    /// Whether a split is lawful, and gives two boxes with these ranges of the variable and so many points.
+    fn divides(
+        alloc: Global,
+        whole: &BoxOf,
+        place: u32,
+        at: i64,
+        lower: ((i64, i64), u128),
+        upper: ((i64, i64), u128),
+    ) -> Result<bool, NoMemory> {
+        let var = VarId::new(place);
+        if !whole.can_split(var, at) {
+            return Ok(false);
+        }
+        let (low, high) = whole.split(alloc, var, at)?;
+        Ok(shows(&low, place, lower.0, lower.1) && shows(&high, place, upper.0, upper.1))
+    }
+
+    /// A variable's place and a number, and whether the box of the test can be split there.
+    const PLACES: [(u32, i64, bool); 6] = [
+        (1, -6, false),
+        (1, -5, true),
+        (1, 4, true),
+        (1, 5, false),
+        (2, 2, false),
+        (3, 0, false),
+    ];
+
+    #[test]
+    fn splits(rt: HostRuntime) -> Result<(), Fail> {
+        let whole = box_of(rt.alloc(), &[(0, 9), (-5, 5), (2, 2)])?;
+        for (place, at, want) in PLACES {
+            assert_eq!(rt;
+                whole.can_split(VarId::new(place), at),
+                want,
+                "{place} {at}"
+            );
+        }
+        assert!(rt; divides(rt.alloc(), &whole, 1, -1, ((-5, -1), 50), ((0, 5), 60))?);
+        assert!(rt; divides(rt.alloc(), &whole, 0, 0, ((0, 0), 11), ((1, 9), 99))?);
+        Ok(())
+    }
 }

@@ -4,6 +4,7 @@
 
 mod box_laws;
 mod boxes;
+mod cut_laws;
 mod found;
 mod gaps;
 mod ids;
@@ -19,8 +20,9 @@ pub use box_laws::{
     split_divides_points, split_is_by_value, within_is_tested,
 };
 pub use boxes::BoxOf;
+pub use cut_laws::{cut_is_between, cut_is_greatest};
 pub use found::Found;
-pub use gaps::{Gap, Gaps};
+pub use gaps::{Gap, Gaps, cut};
 pub use ids::{RowId, VarId};
 pub use items::Items;
 pub use list_laws::{

@@ -2,12 +2,17 @@
 //! status in which a run ends.
 #![tactic(auto)]
 
+mod call_logs;
+mod memory_sinks;
+mod memory_sources;
 mod shelves;
 mod sinks;
 mod sources;
 mod statuses;
 mod texts;
 
+pub use memory_sinks::{MemSink, SureSink};
+pub use memory_sources::{MemSource, SureSource};
 pub use shelves::{Fetched, Shelf, Stored};
 pub use sinks::{Put, Sink, SinkEnd, write_all};
 pub use sources::{Got, Source};

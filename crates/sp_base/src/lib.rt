@@ -3,6 +3,7 @@
 #![tactic(auto)]
 
 mod call_logs;
+mod memory_shelves;
 mod memory_sinks;
 mod memory_sources;
 mod shelves;
@@ -11,6 +12,7 @@ mod sources;
 mod statuses;
 mod texts;
 
+pub use memory_shelves::{MemShelf, SureShelf};
 pub use memory_sinks::{MemSink, SureSink};
 pub use memory_sources::{MemSource, SureSource};
 pub use shelves::{Fetched, Shelf, Stored};

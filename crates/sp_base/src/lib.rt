@@ -20,3 +20,6 @@ pub use sinks::{Put, Sink, SinkEnd, write_all};
 pub use sources::{Got, Source};
 pub use statuses::Status;
 pub use texts::{Text, WordList};
+
+#[cfg(test)]
+mod tests;

@@ -4,6 +4,7 @@ use crate::{
     SureSink, SureSource, Text, WordList, write_all,
 };
 use std::alloc::{AllocError, Global};
+use std::process::Abort;
 use std::test::Fail;
 
 fn text(alloc: Global, bytes: &[u8]) -> Result<Text, AllocError> {
@@ -114,21 +115,52 @@ fn read_five<F: Shelf>(alloc: Global, shelf: &mut F, name: &[u8]) -> Result<Text
     }
 }
 
-/// Writes the bytes, if there are any, and else reads as `read_five` does.
-fn ask<F: Shelf>(
-    alloc: Global,
-    shelf: &mut F,
-    name: &[u8],
-    bytes: Option<&[u8]>,
-) -> Result<Text, AllocError> {
-    let Some(bytes) = bytes else {
-        return read_five(alloc, shelf, name);
+/// A call of a shelf: a write of these bytes, if there are any, and else a read; and what it answers.
+#[derive(Drop)]
+struct Call {
+    name: &'static [u8],
+    bytes: Option<&'static [u8]>,
+    answer: &'static [u8],
+}
+
+const fn read(name: &'static [u8], answer: &'static [u8]) -> Call {
+    Call {
+        name,
+        bytes: None,
+        answer,
+    }
+}
+
+const fn write(name: &'static [u8], bytes: &'static [u8], answer: &'static [u8]) -> Call {
+    Call {
+        name,
+        bytes: Some(bytes),
+        answer,
+    }
+}
+
+fn ask<F: Shelf>(alloc: Global, shelf: &mut F, call: &Call) -> Result<Text, AllocError> {
+    let Some(bytes) = call.bytes else {
+        return read_five(alloc, shelf, call.name);
     };
-    match shelf.write(&text(alloc, name)?, bytes) {
+    match shelf.write(&text(alloc, call.name)?, bytes) {
         Stored::Kept => text(alloc, b"(kept)"),
         Stored::Failed => text(alloc, b"(failed)"),
         Stored::NoMemory => text(alloc, b"(no memory)"),
     }
+}
+
+fn ask_all<F: Shelf>(
+    rt: &impl Abort,
+    alloc: Global,
+    shelf: &mut F,
+    calls: &[Call],
+) -> Result<(), AllocError> {
+    for call in calls {
+        let answer = ask(alloc, shelf, call)?;
+        assert_eq!(rt; answer.as_slice(), call.answer);
+    }
+    Ok(())
 }
 
 /// The files `a`, `b`, `l` and a second `a`, which doesn't count.
@@ -148,6 +180,23 @@ fn some_files(alloc: Global) -> Result<Vec<(Text, Vec<u8>)>, AllocError> {
     Ok(files)
 }
 
+/// The calls that read and write, the fifth and the seventh of which fail.
+fn some_calls() -> [Call; 11] {
+    [
+        read(b"a", b"12345"),
+        read(b"b", b""),
+        read(b"c", b"(absent)"),
+        read(b"l", b"(too long)"),
+        read(b"a", b"(failed)"),
+        write(b"a", b"new", b"(kept)"),
+        write(b"c", b"first", b"(failed)"),
+        read(b"c", b"(absent)"),
+        write(b"c", b"then", b"(kept)"),
+        read(b"c", b"then"),
+        read(b"a", b"new"),
+    ]
+}
+
 #[test]
 fn shelves_keep_files(rt: HostRuntime) -> Result<(), Fail> {
     let mut shelf = MemShelf::new(
@@ -155,37 +204,26 @@ fn shelves_keep_files(rt: HostRuntime) -> Result<(), Fail> {
         some_files(rt.alloc())?,
         Vec::from_slice(rt.alloc(), &[5, 7])?,
     );
-    let mut sure = SureShelf::new(rt.alloc(), some_files(rt.alloc())?);
-    let table = [
-        (b"a", None, b"12345".as_slice(), b"12345".as_slice()),
-        (b"b", None, b"", b""),
-        (b"c", None, b"(absent)", b"(absent)"),
-        (b"l", None, b"(too long)", b"(too long)"),
-        (b"a", None, b"(failed)", b"12345"),
-        (b"a", Some(b"new".as_slice()), b"(kept)", b"(kept)"),
-        (b"c", Some(b"first".as_slice()), b"(failed)", b"(kept)"),
-        (b"c", None, b"(absent)", b"first"),
-        (b"c", Some(b"then".as_slice()), b"(kept)", b"(kept)"),
-        (b"c", None, b"then", b"then"),
-        (b"a", None, b"new", b"new"),
-    ];
-    for (name, bytes, answer, sure_answer) in table {
-        assert_eq!(rt;
-            ask(rt.alloc(), &mut shelf, name.as_slice(), bytes)?.as_slice(),
-            answer
-        );
-        assert_eq!(rt;
-            ask(rt.alloc(), &mut sure, name.as_slice(), bytes)?.as_slice(),
-            sure_answer
-        );
-    }
+    ask_all(&rt, rt.alloc(), &mut shelf, &some_calls())?;
     assert_eq!(rt; (shelf.calls(), shelf.faults()), (11, 2));
     assert_eq!(rt; (shelf.absences(), shelf.overruns()), (2, 1));
-    assert_eq!(rt; (sure.absences(), sure.overruns()), (1, 1));
-    assert_eq!(rt;
-        shelf.file(&text(rt.alloc(), b"c")?),
-        Some(b"then".as_slice())
-    );
-    assert_eq!(rt; sure.file(&text(rt.alloc(), b"d")?), None);
+    let name = text(rt.alloc(), b"c")?;
+    assert_eq!(rt; shelf.file(&name), Some(b"then".as_slice()));
+    Ok(())
+}
+
+#[test]
+fn sure_shelves_keep_files(rt: HostRuntime) -> Result<(), Fail> {
+    let mut shelf = SureShelf::new(rt.alloc(), some_files(rt.alloc())?);
+    let calls = [
+        read(b"d", b"(absent)"),
+        read(b"l", b"(too long)"),
+        write(b"d", b"more", b"(kept)"),
+        read(b"d", b"more"),
+    ];
+    ask_all(&rt, rt.alloc(), &mut shelf, &calls)?;
+    assert_eq!(rt; (shelf.absences(), shelf.overruns()), (1, 1));
+    let name = text(rt.alloc(), b"a")?;
+    assert_eq!(rt; shelf.file(&name), Some(b"12345".as_slice()));
     Ok(())
 }

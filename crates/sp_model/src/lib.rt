@@ -7,13 +7,18 @@ mod found;
 mod gaps;
 mod ids;
 mod items;
+mod memory;
 mod parts;
 mod points;
+mod refusal;
+mod sums;
 
 pub use boxes::BoxOf;
 pub use found::Found;
 pub use gaps::{Gap, Gaps};
 pub use ids::{RowId, VarId};
 pub use items::Items;
+pub use memory::NoMemory;
 pub use parts::{Indicator, ModelParts, Row, Sos, SosKind};
 pub use points::Point;
+pub use refusal::BuildRefusal;

@@ -1,6 +1,6 @@
 -- Sums of terms: how great they can be within a box, and a step of a loop that adds them up.
 use Rattle.std.proofs.Common.{◌≡◌, ℕ, zero, suc, ◌+◌, ◌-◌, ◌*◌, ◌/◌, ◌^◌, ◌<◌, ◌≤◌, inl, inr, max, List, [], ◌∷◌, length, get_or, drop, ℤ, pos, ◌+ℤ◌, ◌*ℤ◌, ◌≤ℤ◌, All, refl, sym, ap, ◌∙◌, add-one, drop-cons, arith}
-use Rattle.std.proofs.Math.Nat.{mul-le-mul_left}
+use Rattle.std.proofs.Math.Nat.{mul-le-mul_left, mul-le-mul_right, div-lt_iff_lt-mul, div-mul-le_self}
 use Rattle.std.proofs.lemmas.Bool.{cases_lt}
 use Rattle.std.proofs.lemmas.List.{get_or_past}
 use Rattle.std.proofs.lemmas.Int.{ints, to_z-of_z, unsigned_abs-mul, fits_signed_from_abs}
@@ -65,6 +65,24 @@ term_small ts i t x s h e k =
     let m : unsigned_abs s + (unsigned_abs (t.1 *ℤ entry x t.0) + magnitude (drop (i + 1) ts) x) ≤ 10 ^ 36 = rw d at k in
     omega arith
 
--- a step of a loop that takes the width of each term off the room
+-- a step of a loop that takes the width of each term off the room: what is left of the terms
 pub width_turn : (b : Bounds) (ts : List Term) (i : ℕ) (t : Term) → i < length ts → t ≡ get_or ts i t → width_over b (drop i ts) ≡ unsigned_abs t.1 * reach (range_at b t.0) + width_over b (drop (i + 1) ts)
 width_turn b ts i t h e = ap (width_over b) (drop_item ts i t h e)
+
+-- a term that is wider than what is left of the room
+pub too_wide : (left size n : ℕ) → 0 < n → left / n < size → left < size * n
+too_wide left size n p h = (div-lt_iff_lt-mul p).0 h
+
+-- a term that isn't
+pub wide_enough : (left size n : ℕ) → size ≤ left / n → size * n ≤ left
+wide_enough left size n h = omega (arith, mul-le-mul_right n h, div-mul-le_self left n)
+
+-- the product of two numbers that are known by equations
+pub same_product : (a b c d : ℕ) → a ≡ c → b ≡ d → a * b ≡ c * d
+same_product a b c d p q = ap (λ k. k * b) p ∙ ap (λ k. c * k) q
+
+pub no_room : (left room all now next size : ℕ) → left + all ≡ room + now → now ≡ size + next → left < size → all ≤ room → ⊥
+no_room left room all now next size e d h k = omega arith
+
+pub less_room : (left room all now next size : ℕ) → left + all ≡ room + now → now ≡ size + next → size ≤ left → left - size + all ≡ room + next
+less_room left room all now next size e d h = omega arith

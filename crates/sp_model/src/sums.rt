@@ -47,6 +47,13 @@ fn reach_of(parts: &ModelParts, var: VarId) -> u128
     u128::from(least.max(greatest).max(1))
 }
 
+/// The magnitude of the term's coefficient.
+fn coefficient_size(term: &(VarId, i128)) -> u128
+    ensures { result ≡ unsigned_abs term.now.1 }
+{
+    term.1.unsigned_abs()
+}
+
 /// What is left of the room beside the width of the terms, or `None` where they are wider than the room.
 pub fn room_beside(parts: &ModelParts, terms: &[(VarId, i128)], room: u128) -> Option<u128>
     requires known { All (λ t. t.0 < length parts.now.lower) terms.now }
@@ -58,7 +65,7 @@ pub fn room_beside(parts: &ModelParts, terms: &[(VarId, i128)], room: u128) -> O
     let mut left = room;
     for term in terms {
         let reach = reach_of(parts, term.0);
-        let size = term.1.unsigned_abs();
+        let size = coefficient_size(term);
         if size > left / reach {
             return None;
         }

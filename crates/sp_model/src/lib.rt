@@ -11,6 +11,7 @@ mod memory;
 mod parts;
 mod points;
 mod refusal;
+mod rules;
 mod sums;
 
 pub use boxes::BoxOf;

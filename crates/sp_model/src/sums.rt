@@ -28,12 +28,12 @@ pub fn sum_from(start: &i128, terms: &[(VarId, i128)], x: &[i64]) -> i128
     sum
 }
 
-/// The magnitude of the variable's entry in a list of bounds.
-fn bound_size(bounds: &[i64], var: VarId) -> u64
-    requires { var < length bounds.now }
-    ensures { result ≡ unsigned_abs (entry bounds.now var) }
+/// The magnitude of a bound.
+pub fn bound_size(bounds: &[i64], at: usize) -> u64
+    requires { at < length bounds.now }
+    ensures { result ≡ unsigned_abs (entry bounds.now at) }
 {
-    bounds[var.index()].unsigned_abs()
+    bounds[at].unsigned_abs()
 }
 
 /// How far a value of the variable can be from 0, and at least 1.
@@ -42,16 +42,16 @@ fn reach_of(parts: &ModelParts, var: VarId) -> u128
     requires paired { length parts.now.upper ≡ length parts.now.lower }
     ensures { result ≡ reach (range_at (root_of parts.now) var) }
 {
-    let least = bound_size(parts.lower.as_slice(), var);
-    let greatest = bound_size(parts.upper.as_slice(), var);
+    let least = bound_size(parts.lower.as_slice(), var.index());
+    let greatest = bound_size(parts.upper.as_slice(), var.index());
     u128::from(least.max(greatest).max(1))
 }
 
-/// The magnitude of the term's coefficient.
-fn coefficient_size(term: &(VarId, i128)) -> u128
-    ensures { result ≡ unsigned_abs term.now.1 }
+/// The magnitude of a number.
+pub fn size_of(value: &i128) -> u128
+    ensures { result ≡ unsigned_abs value.now }
 {
-    term.1.unsigned_abs()
+    value.unsigned_abs()
 }
 
 /// What is left of the room beside the width of the terms, or `None` where they are wider than the room.
@@ -65,7 +65,7 @@ pub fn room_beside(parts: &ModelParts, terms: &[(VarId, i128)], room: u128) -> O
     let mut left = room;
     for term in terms {
         let reach = reach_of(parts, term.0);
-        let size = coefficient_size(term);
+        let size = size_of(&term.1);
         if size > left / reach {
             return None;
         }
@@ -80,6 +80,6 @@ pub fn side_size(side: &Option<i128>) -> u128
 {
     match side {
         None => 0,
-        Some(value) => value.unsigned_abs(),
+        Some(value) => size_of(value),
     }
 }

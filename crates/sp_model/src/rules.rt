@@ -2,7 +2,7 @@ ghost use Rattle.std.specs.Prelude.{◌≡◌, ◌≢◌, ◌↔◌, ◌+◌, �
 ghost use Rattle.std.specs.HashSet as hash_set;
 ghost use Rattle.sp_model.specs.Boxes.{range_at};
 ghost use Rattle.sp_model.specs.Models.{root_of, row_width, objective_width};
-ghost use Rattle.sp_model.specs.Rules.{AreTermsLawful, AreVariablesLawful, IsRangeLawful, IsObjectiveLawful, IsRowLawful, IsBinary, IsIndicatorLawful, IsSetLawful, AreLawful, IsFirstBroken, IsLawful, IsFirstFault};
+ghost use Rattle.sp_model.specs.Rules.{AreTermsLawful, AreVariablesLawful, IsRangeLawful, IsObjectiveLawful, IsRowLawful, IsBinary, IsIndicatorLawful, IsSetLawful, AreLawful, IsFirstBroken, IsLawfulToRows, IsLawful, IsFirstFault};
 
 use std::alloc::{AllocError, Global};
 use std::collections::HashSet;
@@ -212,4 +212,54 @@ fn is_set_lawful(alloc: Global, parts: &ModelParts, set: &Sos) -> Result<bool, N
         return Ok(false);
     }
     are_distinct(alloc, set.vars.as_slice())
+}
+
+fn broken_set(alloc: Global, parts: &ModelParts) -> Result<Option<u32>, NoMemory>
+    ensures { IfOk result (λ broken. MatchOption broken
+        (AreLawful 1000 (IsSetLawful parts.now) parts.now.sos)
+        (λ k. IsFirstBroken 1000 (IsSetLawful parts.now) parts.now.sos k)) }
+{
+    for (k, set) in parts.sos.as_slice().iter().enumerate() {
+        if k >= MOST_SETS {
+            return Ok(Some(k as u32));
+        }
+        let lawful = is_set_lawful(alloc, parts, set)?;
+        if !lawful {
+            return Ok(Some(k as u32));
+        }
+    }
+    Ok(None)
+}
+
+fn check_to_rows(parts: &ModelParts) -> Result<(), BuildRefusal>
+    ensures { MatchResult result (λ _. IsLawfulToRows parts.now) (IsFirstFault parts.now) }
+{
+    if !are_variables_lawful(parts) {
+        return Err(BuildRefusal::Variables);
+    }
+    if let Some(at) = broken_range(parts) {
+        return Err(BuildRefusal::Bound(VarId::new(at)));
+    }
+    if !is_objective_lawful(parts) {
+        return Err(BuildRefusal::Objective);
+    }
+    Ok(())
+}
+
+/// The first rule that the parts break, if they break one.
+pub fn check(alloc: Global, parts: &ModelParts) -> Result<(), BuildRefusal>
+    ensures { MatchResult result (λ _. IsLawful parts.now) (IsFirstFault parts.now) }
+{
+    check_to_rows(parts)?;
+    if let Some(k) = broken_row(parts) {
+        return Err(BuildRefusal::Row(RowId::new(k)));
+    }
+    if let Some(k) = broken_indicator(parts) {
+        return Err(BuildRefusal::Indicator(k));
+    }
+    match broken_set(alloc, parts) {
+        Err(_) => Err(BuildRefusal::NoMemory),
+        Ok(None) => Ok(()),
+        Ok(Some(k)) => Err(BuildRefusal::Sos(k)),
+    }
 }

@@ -102,15 +102,13 @@ fn does_set_hold(set: &Sos, x: &[i64]) -> bool
     let mut touching = false;
     for var in set.vars.as_slice() {
         let nonzero = is_nonzero_at(x, *var);
-        touching = touching || (last && nonzero);
+        touching |= last & nonzero;
         last = nonzero;
-        if nonzero {
-            count += 1;
-        }
+        count += usize::from(nonzero);
     }
     match set.kind {
         SosKind::One => count <= 1,
-        SosKind::Two => count <= 1 || (count == 2 && touching),
+        SosKind::Two => (count <= 1) | ((count == 2) & touching),
     }
 }
 

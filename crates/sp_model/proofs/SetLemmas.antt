@@ -1,5 +1,5 @@
 -- A special ordered set's values, told by those that are left: how many aren't zero, and whether two neighbours aren't.
-use Rattle.std.proofs.Common.{◌≡◌, ℕ, ◌+◌, ◌<◌, ◌≤◌, Bool, true, false, ◌&&◌, ◌||◌, cond, List, [], ◌∷◌, length, get_or, drop, map, ℤ, pos, refl, sym, ap, ◌∙◌, subst, count_by, arith}
+use Rattle.std.proofs.Common.{◌≡◌, ℕ, ◌+◌, ◌<◌, ◌≤◌, Bool, true, false, ◌&&◌, ◌||◌, cond, List, [], ◌∷◌, length, get_or, drop, map, ℤ, refl, sym, ap, ◌∙◌, subst, count_by, arith}
 use Rattle.std.proofs.lemmas.List.{drop_all}
 use Rattle.std.proofs.lemmas.List.Sums.{sum_by-cons}
 use mir.Val.{bool_byte}
@@ -45,9 +45,9 @@ count_few count i n b e h = omega (arith, byte_small b)
 -- the next value
 set_next : (all : List ℤ) (count : ℕ) (last touching : Bool) (v : ℤ) (vs : List ℤ) → SetTurns all count last touching (v ∷ vs) → SetTurns all (count + bool_byte (is_nonzero v)) (is_nonzero v) (touching || (last && is_nonzero v)) vs
 set_next all count last touching v vs h = record {
-      counted = count_more count (count_by is_nonzero vs) (count_by is_nonzero all) (is_nonzero v) (ap (λ n. count + n) (sym (sum_by-cons (λ w. cond (is_nonzero w) 1 0) v vs)) ∙ h.counted);
-      touched = or_assoc touching (last && is_nonzero v) (touches (is_nonzero v) vs) ∙ h.touched;
-    }
+  counted = count_more count (count_by is_nonzero vs) (count_by is_nonzero all) (is_nonzero v) (ap (λ n. count + n) (sym (sum_by-cons (λ w. cond (is_nonzero w) 1 0) v vs)) ∙ h.counted);
+  touched = or_assoc touching (last && is_nonzero v) (touches (is_nonzero v) vs) ∙ h.touched;
+}
 
 -- the next member
 pub set_turn : (all x : List ℤ) (vars : List ℕ) (i v count n : ℕ) (last touching b : Bool) → i < length vars → v ≡ get_or vars i v → b ≡ is_nonzero (entry x v) → n ≡ bool_byte b → SetTurns all count last touching (map (entry x) (drop i vars)) → SetTurns all (count + n) b (touching || (last && b)) (map (entry x) (drop (i + 1) vars))

@@ -4,8 +4,6 @@ ghost use Rattle.sp_model.specs.Lists.{constraints_hold};
 ghost use Rattle.sp_model.specs.Models.{Feasible, objective, root_of};
 ghost use Rattle.sp_model.specs.Rules.{IsLawful, IsFirstFault};
 
-use std::alloc::Global;
-
 use crate::boxes::BoxOf;
 use crate::ids::VarId;
 use crate::items::Items;
@@ -15,7 +13,8 @@ use crate::points::Point;
 use crate::refusal::BuildRefusal;
 use crate::rules::check;
 use crate::sums::sum_from;
-use crate::truths::{do_indicators_hold, do_rows_hold, do_sets_hold};
+use crate::truths::{are_values_within, do_all_hold};
+use std::alloc::Global;
 
 /// A model whose parts keep all rules. Contracts see it as its parts.
 #[derive(Debug, Drop)]
@@ -61,7 +60,10 @@ impl Model {
         ensures { result ≡ range_at (root_of self.now) var }
     {
         let at = var.index();
-        (self.parts.lower.as_slice()[at], self.parts.upper.as_slice()[at])
+        (
+            self.parts.lower.as_slice()[at],
+            self.parts.upper.as_slice()[at],
+        )
     }
 
     /// The box of the bounds.
@@ -73,13 +75,24 @@ impl Model {
         Ok(BoxOf { lower, upper })
     }
 
+    /// Whether the point has a value for each variable, and each lies within its bounds.
+    pub fn is_within(&self, x: &Point) -> bool
+        ensures { IsTrue result ↔ IsWithin (root_of self.now) x.now }
+    {
+        are_values_within(&self.parts, x.as_slice())
+    }
+
     /// The objective at a point within the bounds, in scaled units and in the minimising direction.
     pub fn value(&self, x: &Point) -> i128
         requires { IsWithin (root_of self.now) x.now }
         ensures exact { result ≡ objective self.now x.now }
         ensures small { unsigned_abs result ≤ 10 ^ 36 }
     {
-        sum_from(&self.parts.constant, self.parts.cost.as_slice(), x.as_slice())
+        sum_from(
+            &self.parts.constant,
+            self.parts.cost.as_slice(),
+            x.as_slice(),
+        )
     }
 
     /// Whether each row, indicator and set holds at a point within the bounds.
@@ -88,9 +101,6 @@ impl Model {
         ensures exact { IsTrue result ↔ Feasible self.now x.now }
         ensures test { result ≡ constraints_hold self.now x.now }
     {
-        let values = x.as_slice();
-        do_rows_hold(self.parts.rows.as_slice(), values)
-            && do_indicators_hold(self.parts.indicators.as_slice(), values)
-            && do_sets_hold(self.parts.sos.as_slice(), values)
+        do_all_hold(&self.parts, x.as_slice())
     }
 }

@@ -4,21 +4,26 @@ ghost use Rattle.sp_model.specs.Boxes.{range_at};
 ghost use Rattle.sp_model.specs.Models.{root_of, row_width, objective_width};
 ghost use Rattle.sp_model.specs.Rules.{AreTermsLawful, AreVariablesLawful, IsRangeLawful, IsObjectiveLawful, IsRowLawful, IsBinary, IsIndicatorLawful, IsSetLawful, AreLawful, IsFirstBroken, IsLawfulToRows, IsLawful, IsFirstFault};
 
-use std::alloc::{AllocError, Global};
-use std::collections::HashSet;
-
 use crate::ids::{RowId, VarId};
 use crate::memory::NoMemory;
 use crate::parts::{Indicator, ModelParts, Row, Sos};
 use crate::refusal::BuildRefusal;
 use crate::sums::{bound_size, room_beside, side_size, size_of};
+use std::alloc::{AllocError, Global};
+use std::collections::HashSet;
 
 const MOST_VARIABLES: usize = 2_000;
+
 const MOST_ROWS: usize = 10_000;
+
 const MOST_INDICATORS: usize = 1_000;
+
 const MOST_SETS: usize = 1_000;
+
 const GREATEST_BOUND: u64 = 1_000_000_000_000_000;
+
 const GREATEST_WIDTH: u128 = 1_000_000_000_000_000_000_000_000_000_000_000_000;
+
 const GREATEST_SCALE: u8 = 30;
 
 fn is_zero(value: &i128) -> bool

@@ -1,12 +1,14 @@
-ghost use Rattle.std.specs.Prelude.{◌≡◌, ◌&&◌, ◌<◌, All, length};
+ghost use Rattle.std.specs.Prelude.{◌≡◌, ◌↔◌, ◌&&◌, ◌<◌, All, length, IsTrue};
 ghost use Rattle.std.specs.List.{list_all};
 ghost use Rattle.std.specs.Ordering.{int_eq};
-ghost use Rattle.sp_model.specs.Boxes.{entry};
-ghost use Rattle.sp_model.specs.Sums.{AreTermsSafe, sum_at};
-ghost use Rattle.sp_model.specs.Models.{is_at_least, is_at_most, row_holds, switch_value, indicator_holds, is_nonzero, has_neighbours, set_allows, set_holds};
+ghost use Rattle.sp_model.specs.Boxes.{IsBetween, IsWithin, entry, range_at};
+ghost use Rattle.sp_model.specs.Lists.{constraints_hold};
+ghost use Rattle.sp_model.specs.Rules.{IsLawful};
+ghost use Rattle.sp_model.specs.Sums.{AreTermsSafe};
+ghost use Rattle.sp_model.specs.Models.{is_at_least, is_at_most, row_holds, switch_value, indicator_holds, is_nonzero, set_holds, root_of};
 
 use crate::ids::VarId;
-use crate::parts::{Indicator, Row, Sos, SosKind};
+use crate::parts::{Indicator, ModelParts, Row, Sos, SosKind};
 use crate::sums::sum_from;
 
 fn is_at_least(side: &Option<i128>, value: &i128) -> bool
@@ -119,6 +121,58 @@ pub fn do_sets_hold(sets: &[Sos], x: &[i64]) -> bool
 {
     for set in sets {
         if !does_set_hold(set, x) {
+            return false;
+        }
+    }
+    true
+}
+
+/// Whether each row, indicator and set of a lawful model holds at a point within the bounds.
+pub fn do_all_hold(parts: &ModelParts, x: &[i64]) -> bool
+    requires lawful { IsLawful parts.now }
+    requires within { IsWithin (root_of parts.now) x.now }
+    ensures { result ≡ constraints_hold parts.now x.now }
+{
+    let rows = do_rows_hold(parts.rows.as_slice(), x);
+    if !rows {
+        return false;
+    }
+    let indicators = do_indicators_hold(parts.indicators.as_slice(), x);
+    if !indicators {
+        return false;
+    }
+    do_sets_hold(parts.sos.as_slice(), x)
+}
+
+fn is_value_within(parts: &ModelParts, at: usize, x: &[i64]) -> bool
+    requires known { at < length parts.now.lower }
+    requires paired { length parts.now.upper ≡ length parts.now.lower }
+    requires long { at < length x.now }
+    ensures { IsTrue result ↔ IsBetween (range_at (root_of parts.now) at) (entry x.now at) }
+{
+    is_between(
+        &parts.lower.as_slice()[at],
+        &parts.upper.as_slice()[at],
+        &x[at],
+    )
+}
+
+fn is_between(least: &i64, greatest: &i64, value: &i64) -> bool
+    ensures { IsTrue result ↔ IsBetween (least.now, greatest.now) value.now }
+{
+    *least <= *value && *value <= *greatest
+}
+
+/// Whether the point has a value for each variable, and each lies within its bounds.
+pub fn are_values_within(parts: &ModelParts, x: &[i64]) -> bool
+    requires { length parts.now.upper ≡ length parts.now.lower }
+    ensures { IsTrue result ↔ IsWithin (root_of parts.now) x.now }
+{
+    if x.len() != parts.lower.len() {
+        return false;
+    }
+    for at in 0..x.len() {
+        if !is_value_within(parts, at, x) {
             return false;
         }
     }

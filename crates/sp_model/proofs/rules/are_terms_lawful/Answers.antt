@@ -1,5 +1,5 @@
-use Rattle.std.proofs.Common.{◌≡◌, ◌≢◌, ◌<◌, ◌≤◌, drop, pos, refl, arith}
-use Rattle.sp_model.proofs.RuleLemmas.{Turns, turns_start, turn_there, turn_more, turns_end}
+use Rattle.std.proofs.Common.{◌≢◌, pos, refl, arith}
+use Rattle.sp_model.proofs.RuleLemmas.{turns_start, turn_there, turn_more, turns_end}
 use Rattle.sp_model.proofs.rules.are_terms_lawful.Goals as goal
 
 pub loop-term-init : goal.loop-term-init

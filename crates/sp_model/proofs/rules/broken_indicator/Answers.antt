@@ -1,5 +1,5 @@
-use Rattle.std.proofs.Common.{◌≡◌, ◌<◌, ◌≤◌, length, get_or, arith}
-use Rattle.sp_model.specs.Rules.{IsIndicatorLawful, AreLawful, IsFirstBroken}
+use Rattle.std.proofs.Common.{arith}
+use Rattle.sp_model.specs.Rules.{IsIndicatorLawful}
 use Rattle.sp_model.proofs.RuleLemmas.{first_broken, first_past, one_more, all_lawful}
 use Rattle.sp_model.proofs.rules.broken_indicator.Goals as goal
 

@@ -1,8 +1,8 @@
-use Rattle.std.proofs.Common.{◌≡◌, ◌<◌, ◌≤◌, length, get_or, pos, arith}
+use Rattle.std.proofs.Common.{◌<◌, length, arith}
 use Rattle.std.proofs.lemmas.List.{get_or_default}
 use Rattle.sp_model.specs.Models.{root_of}
 use Rattle.sp_model.specs.Boxes.{range_at}
-use Rattle.sp_model.specs.Rules.{IsRangeLawful, AreLawful}
+use Rattle.sp_model.specs.Rules.{IsRangeLawful}
 use Rattle.sp_model.proofs.RangeLemmas.{length-ranges}
 use Rattle.sp_model.proofs.RuleLemmas.{first_broken, one_more, all_lawful}
 use Rattle.sp_model.proofs.rules.broken_range.Goals as goal

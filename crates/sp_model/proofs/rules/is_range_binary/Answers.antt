@@ -1,5 +1,3 @@
-use Rattle.std.proofs.Common.{◌≡◌, length}
-use Rattle.sp_model.specs.Rules.{IsBinary}
 use Rattle.sp_model.proofs.RangeLemmas.{range_at-ranges}
 use Rattle.sp_model.proofs.rules.is_range_binary.Goals as goal
 

@@ -1,7 +1,5 @@
-use Rattle.std.proofs.Common.{◌≡◌, ℕ, max, length, arith}
-use Rattle.sp_model.specs.Boxes.{entry, range_at}
-use Rattle.sp_model.specs.Models.{root_of}
-use Rattle.sp_model.specs.Sums.{reach}
+use Rattle.std.proofs.Common.{◌≡◌, ℕ, max, arith}
+use Rattle.sp_model.specs.Boxes.{entry}
 use Rattle.sp_model.proofs.RangeLemmas.{range_at-ranges}
 use Rattle.std.specs.Int.RustNames.{unsigned_abs}
 use Rattle.sp_model.proofs.sums.reach_of.Goals as goal

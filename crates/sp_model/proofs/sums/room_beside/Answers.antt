@@ -1,4 +1,4 @@
-use Rattle.std.proofs.Common.{arith, ◌≡◌, ◌*◌, ◌<◌, ◌≤◌, ◌/◌, sym}
+use Rattle.std.proofs.Common.{arith}
 use Rattle.sp_model.specs.Models.{root_of}
 use Rattle.sp_model.proofs.SumLemmas.{width_turn, too_wide, wide_enough, same_product, no_room, less_room}
 use Rattle.sp_model.proofs.sums.room_beside.Goals as goal

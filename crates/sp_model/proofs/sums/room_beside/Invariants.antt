@@ -1,4 +1,4 @@
-use Rattle.std.proofs.Common.{◌≡◌, ◌+◌, ◌≤◌, drop}
+use Rattle.std.proofs.Common.{◌≡◌, ◌+◌, drop}
 use Rattle.sp_model.specs.Models.{root_of}
 use Rattle.sp_model.specs.Sums.{width_over}
 use Rattle.sp_model.proofs.sums.room_beside.Given as goal

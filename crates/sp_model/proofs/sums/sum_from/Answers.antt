@@ -1,11 +1,9 @@
-use Rattle.std.proofs.Common.{rules, arith, ◌≡◌, ◌+◌, ◌*◌, ◌^◌, ◌<◌, ◌≤◌, length, get_or, drop, ℤ, pos, ◌+ℤ◌, ◌*ℤ◌, to_z, of_z, FitsSigned, ◌∙◌, ap}
+use Rattle.std.proofs.Common.{rules, arith, ◌≡◌, ◌+ℤ◌, to_z, of_z, FitsSigned, ◌∙◌, ap}
 use Rattle.std.specs.Int.{w128}
-use Rattle.std.specs.Int.RustNames.{unsigned_abs}
 use Rattle.std.proofs.lemmas.List.{drop_all}
 use Rattle.std.proofs.lemmas.Int.{ints, to_z-of_z}
-use Rattle.sp_model.specs.Boxes.{entry}
-use Rattle.sp_model.specs.Sums.{sum_at, magnitude}
-use Rattle.sp_model.proofs.SumLemmas.{SumStep, sum_turn, term_small, fits_from_small}
+use Rattle.sp_model.specs.Sums.{sum_at}
+use Rattle.sp_model.proofs.SumLemmas.{sum_turn, term_small, fits_from_small}
 use Rattle.sp_model.proofs.sums.sum_from.Goals as goal
 
 pub loop-term-init : goal.loop-term-init

@@ -7,5 +7,5 @@ abbrev pub invariant-loop-term : goal.invariant-loop-term
 invariant-loop-term l =
     record {
       whole : l.sum +ℤ sum_at (drop l.term-index l.terms) l.x ≡ l.start +ℤ sum_at l.terms l.x;
-      small : unsigned_abs l.sum + magnitude (drop l.term-index l.terms) l.x ≤ 10 ^ 36
+      small : unsigned_abs l.sum + magnitude (drop l.term-index l.terms) l.x ≤ 10 ^ 36;
     }

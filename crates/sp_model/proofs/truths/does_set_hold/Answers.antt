@@ -1,6 +1,6 @@
-use Rattle.std.proofs.Common.{◌≡◌, ◌≤◌, length, map, drop, ◌+◌, arith}
+use Rattle.std.proofs.Common.{map, arith}
 use Rattle.sp_model.specs.Boxes.{entry}
-use Rattle.sp_model.proofs.SetLemmas.{SetTurns, set_start, set_turn, set_done, count_few}
+use Rattle.sp_model.proofs.SetLemmas.{set_start, set_turn, set_done, count_few}
 use Rattle.sp_model.proofs.truths.does_set_hold.Goals as goal
 
 pub loop-var-init : goal.loop-var-init

@@ -7,5 +7,5 @@ abbrev pub invariant-loop-var : goal.invariant-loop-var
 invariant-loop-var l =
     record {
       few : l.count ≤ l.var-index;
-      turns : SetTurns (map (entry l.x) l.set.vars) l.count l.last l.touching (map (entry l.x) (drop l.var-index l.set.vars))
+      turns : SetTurns (map (entry l.x) l.set.vars) l.count l.last l.touching (map (entry l.x) (drop l.var-index l.set.vars));
     }

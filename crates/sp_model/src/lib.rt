@@ -8,6 +8,8 @@ mod gaps;
 mod ids;
 mod items;
 mod memory;
+#[cfg(test)]
+mod model_tests;
 mod models;
 mod parts;
 mod points;

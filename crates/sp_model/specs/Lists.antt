@@ -141,3 +141,11 @@ pub record IsBest (m : ModelParts) (gaps : Gaps) (k : ℕ) (xs : List (List ℤ)
   pub whole : List (List ℤ)
   pub listed : IsListWithin m gaps whole
   pub first : xs ≡ take k whole
+
+-- a point with its objective
+abbrev pub found_at : ModelParts → List ℤ → Found
+found_at m x = record { point = x; value = objective m x }
+
+-- the feasible points of a model in lexicographic order, with their objectives
+abbrev pub found_points : ModelParts → List Found
+found_points m = map (found_at m) (feasible_points m)

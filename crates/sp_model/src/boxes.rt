@@ -45,6 +45,16 @@ impl BoxOf {
         (self.lower.as_slice()[place], self.upper.as_slice()[place])
     }
 
+    /// How many values a variable has, at most 2^64.
+    pub fn width(&self, var: VarId) -> u128
+        requires { var < length self.now }
+        ensures value { result ≡ width_of (range_at self.now var) }
+        ensures bound { result ≤ 2 ^ 64 }
+    {
+        let place = var.index();
+        width_between(&self.lower.as_slice()[place], &self.upper.as_slice()[place])
+    }
+
     /// Whether the box has a point: no range is empty.
     pub fn has_points(&self) -> bool
         ensures { IsTrue result ↔ (0 < point_count self.now) }

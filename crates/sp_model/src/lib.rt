@@ -12,8 +12,16 @@ mod items;
 mod list_laws;
 mod lists;
 mod memory;
+mod model_laws;
+#[cfg(test)]
+mod model_tests;
+mod models;
 mod parts;
 mod points;
+mod refusal;
+mod rules;
+mod sums;
+mod truths;
 
 pub use box_laws::{
     points_are_all_within, points_are_counted, points_are_lexicographic, split_divides_count,
@@ -32,5 +40,8 @@ pub use list_laws::{
 };
 pub use lists::{least_value, list_from, order};
 pub use memory::NoMemory;
+pub use model_laws::{objective_is_small, root_is_short, walk_finds_all};
+pub use models::Model;
 pub use parts::{Indicator, ModelParts, Row, Sos, SosKind};
 pub use points::Point;
+pub use refusal::BuildRefusal;

@@ -1,0 +1,6 @@
+pub mod Told
+pub mod Counts
+pub mod Status
+pub mod Source
+pub mod Sink
+pub mod Shelf

@@ -1,0 +1,63 @@
+//! Files by name.
+ghost use Rattle.std.specs.Prelude.{◌≡◌, ℕ, ◌≤◌, Option};
+ghost use Rattle.sp_base.specs.Counts.{Rose};
+ghost use Rattle.sp_base.specs.Shelf.{Files, Fetches, Stores};
+
+use crate::texts::Text;
+
+/// What a shelf answers to a read.
+#[derive(Debug, Drop)]
+pub enum Fetched {
+    /// The bytes of the file.
+    Bytes(Text),
+    /// There is no such file.
+    Absent,
+    /// The file is longer than the limit.
+    TooLong,
+    /// The read failed.
+    Failed,
+    /// There was no memory for the bytes.
+    NoMemory,
+}
+
+/// What a shelf answers to a write.
+#[derive(Clone, Copy, PartialEq, Eq, Debug)]
+pub enum Stored {
+    /// The file has these bytes now.
+    Kept,
+    /// The write failed: the file is as it was or has a front part of the bytes.
+    Failed,
+    /// There was no memory for the write, and nothing changed.
+    NoMemory,
+}
+
+/// A shelf of files. It may tell its files, and counts its faults, the reads of files that weren't there
+/// (absences) and the reads of files that were too long (overruns).
+pub trait Shelf {
+    ghost files: { Self → Option Files };
+
+    ghost faults: { Self → ℕ };
+
+    ghost absences: { Self → ℕ };
+
+    ghost overruns: { Self → ℕ };
+
+    /// The bytes of the file `name`, if there are at most `limit` of them.
+    fn read(&mut self, name: &Text, limit: u64) -> Fetched
+        ensures answer { Fetches result (files self.old) name.now limit }
+        ensures unchanged { files self.new ≡ files self.old }
+        ensures faults_later { faults self.old ≤ faults self.new }
+        ensures absences_later { absences self.old ≤ absences self.new }
+        ensures overruns_later { overruns self.old ≤ overruns self.new }
+        ensures failed { result ≡ Fetched.Failed → Rose (faults self.old) (faults self.new) }
+        ensures absent { result ≡ Fetched.Absent → Rose (absences self.old) (absences self.new) }
+        ensures too_long { result ≡ Fetched.TooLong → Rose (overruns self.old) (overruns self.new) };
+
+    /// Sets the file `name` to these bytes.
+    fn write(&mut self, name: &Text, bytes: &[u8]) -> Stored
+        ensures answer { Stores result (files self.old) (files self.new) name.now bytes.now }
+        ensures faults_later { faults self.old ≤ faults self.new }
+        ensures absences_later { absences self.old ≤ absences self.new }
+        ensures overruns_later { overruns self.old ≤ overruns self.new }
+        ensures failed { result ≡ Stored.Failed → Rose (faults self.old) (faults self.new) };
+}

@@ -1,0 +1,6 @@
+pub mod Complete
+pub mod KindLaws
+pub mod LineLaws
+pub mod NameLaws
+pub mod ReadLaws
+pub mod Sound

@@ -1,5 +1,5 @@
 -- Sums of terms, at a point and at their widest.
-use Rattle.std.specs.Prelude.{ℕ, ◌+◌, ◌*◌, max, List, [], ◌∷◌, Option, None, Some, ℤ, pos, ◌+ℤ◌, ◌*ℤ◌, unsigned_abs}
+use Rattle.std.specs.Prelude.{ℕ, ◌+◌, ◌*◌, ◌^◌, ◌<◌, ◌≤◌, max, List, [], ◌∷◌, length, All, Option, None, Some, ℤ, pos, ◌+ℤ◌, ◌*ℤ◌, unsigned_abs}
 use Rattle.sp_model.specs.Boxes.{Bounds, range_at, entry}
 
 -- a variable with its coefficient
@@ -24,3 +24,13 @@ width_over b (t ∷ ts) = unsigned_abs t.1 * reach (range_at b t.0) + width_over
 abbrev pub side_width : Option ℤ → ℕ
 side_width None = 0
 side_width (Some v) = unsigned_abs v
+
+-- the magnitudes of the terms at a point, added up
+abbrev pub magnitude : List Term → List ℤ → ℕ
+magnitude [] x = 0
+magnitude (t ∷ ts) x = unsigned_abs (t.1 *ℤ entry x t.0) + magnitude ts x
+
+-- at a point of so many values: the variables are known, and the sum of the magnitudes is at most 10^36
+pub record AreTermsSafe (ts : List Term) (x : List ℤ) : Type 0 where
+  pub known : All (λ t. t.0 < length x) ts
+  pub small : magnitude ts x ≤ 10 ^ 36

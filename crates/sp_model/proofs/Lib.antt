@@ -1,0 +1,5 @@
+pub mod ModelLemmas
+pub mod RangeLemmas
+pub mod RuleLemmas
+pub mod SetLemmas
+pub mod SumLemmas

@@ -1,0 +1,6 @@
+use Rattle.std.proofs.Common.{◌≤◌, All, take}
+use Rattle.sp_model.specs.Rules.{IsRowLawful}
+use Rattle.sp_model.proofs.rules.broken_row.Given as goal
+
+abbrev pub invariant-loop-k : goal.invariant-loop-k
+invariant-loop-k l = record { few : l.k ≤ 10000; lawful : All (IsRowLawful l.parts) (take l.k l.parts.rows) }

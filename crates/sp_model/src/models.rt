@@ -1,0 +1,106 @@
+ghost use Rattle.std.specs.Prelude.{◌≡◌, ◌↔◌, ◌^◌, ◌<◌, ◌≤◌, length, unsigned_abs, IsTrue, IfOk, IfErr};
+ghost use Rattle.sp_model.specs.Boxes.{IsWithin, range_at};
+ghost use Rattle.sp_model.specs.Lists.{constraints_hold};
+ghost use Rattle.sp_model.specs.Models.{Feasible, objective, root_of};
+ghost use Rattle.sp_model.specs.Rules.{IsLawful, IsFirstFault};
+
+use crate::boxes::BoxOf;
+use crate::ids::VarId;
+use crate::items::Items;
+use crate::memory::NoMemory;
+use crate::parts::ModelParts;
+use crate::points::Point;
+use crate::refusal::BuildRefusal;
+use crate::rules::check;
+use crate::sums::sum_from;
+use crate::truths::{are_values_within, do_all_hold};
+use std::alloc::Global;
+
+/// A model whose parts keep all rules. Contracts see it as its parts.
+#[derive(Debug, Drop)]
+pub struct Model {
+    parts: ModelParts,
+}
+
+impl std::marker::Model for Model {
+    ghost use Rattle.sp_model.specs.declared.parts.ModelParts.{ModelParts};
+
+    ghost Value = { ModelParts };
+
+    ghost use Rattle.sp_model.specs.Rules.{IsLawful};
+
+    ghost view = { λ m. m.parts };
+
+    ghost invariant = { λ m. IsLawful m.parts };
+}
+
+impl Model {
+    /// The model of these parts, or the first rule that they break. The parts are dropped then.
+    pub fn build(alloc: Global, parts: ModelParts) -> Result<Model, BuildRefusal>
+        ensures ok { IfOk result (λ m. (m ≡ parts) × IsLawful parts) }
+        ensures refused { IfErr result (IsFirstFault parts) }
+    {
+        match check(alloc, &parts) {
+            Err(refusal) => Err(refusal),
+            Ok(()) => Ok(Model { parts }),
+        }
+    }
+
+    /// The parts, as they came.
+    pub fn parts(&self) -> &ModelParts
+        ensures same { result.now ≡ self.now }
+        ensures lawful { IsLawful self.now }
+    {
+        &self.parts
+    }
+
+    /// The least and the greatest value of a variable.
+    pub fn bounds(&self, var: VarId) -> (i64, i64)
+        requires { var < length self.now.lower }
+        ensures { result ≡ range_at (root_of self.now) var }
+    {
+        let at = var.index();
+        (
+            self.parts.lower.as_slice()[at],
+            self.parts.upper.as_slice()[at],
+        )
+    }
+
+    /// The box of the bounds.
+    pub fn root(&self, alloc: Global) -> Result<BoxOf, NoMemory>
+        ensures { IfOk result (λ b. b ≡ root_of self.now) }
+    {
+        let lower = Items::from_vec(Vec::from_slice(alloc, self.parts.lower.as_slice())?);
+        let upper = Items::from_vec(Vec::from_slice(alloc, self.parts.upper.as_slice())?);
+        Ok(BoxOf { lower, upper })
+    }
+
+    /// Whether the point has a value for each variable, and each lies within its bounds.
+    pub fn is_within(&self, x: &Point) -> bool
+        ensures { IsTrue result ↔ IsWithin (root_of self.now) x.now }
+    {
+        are_values_within(&self.parts, x.as_slice())
+    }
+
+    /// The objective at a point within the bounds, in scaled units and in the minimising direction.
+    pub fn value(&self, x: &Point) -> i128
+        requires { IsWithin (root_of self.now) x.now }
+        ensures exact { result ≡ objective self.now x.now }
+        ensures small { unsigned_abs result ≤ 10 ^ 36 }
+    {
+        sum_from(
+            &self.parts.constant,
+            self.parts.cost.as_slice(),
+            x.as_slice(),
+        )
+    }
+
+    /// Whether each row, indicator and set holds at a point within the bounds.
+    pub fn feasible(&self, x: &Point) -> bool
+        requires { IsWithin (root_of self.now) x.now }
+        ensures exact { IsTrue result ↔ Feasible self.now x.now }
+        ensures test { result ≡ constraints_hold self.now x.now }
+    {
+        do_all_hold(&self.parts, x.as_slice())
+    }
+}

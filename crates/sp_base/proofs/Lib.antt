@@ -1,1 +1,3 @@
 pub mod ToldLaws
+pub mod Streams
+mod Entries

@@ -72,3 +72,6 @@ pub append_front : (old mid new : Option (List ℕ)) (piece back : List ℕ) (at
 append_front old mid new piece back at count before is after =
     after ∙ ap (λ told. append told (take count back)) before ∙ append-append old (take at piece) (take count back)
     ∙ ap (λ xs. append old (take at piece ++ take count xs)) is ∙ ap (append old) (sym (take-add at count piece))
+
+-- for callers that write one piece after another
+pub ruleset parts = (part_none, part_whole, part_of_front, part_behind)

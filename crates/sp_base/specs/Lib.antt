@@ -4,3 +4,4 @@ pub mod Status
 pub mod Source
 pub mod Sink
 pub mod Shelf
+pub mod Memory

@@ -2,14 +2,24 @@
 //! status in which a run ends.
 #![tactic(auto)]
 
+mod call_logs;
+mod memory_shelves;
+mod memory_sinks;
+mod memory_sources;
 mod shelves;
 mod sinks;
 mod sources;
 mod statuses;
 mod texts;
 
+pub use memory_shelves::{MemShelf, SureShelf};
+pub use memory_sinks::{MemSink, SureSink};
+pub use memory_sources::{MemSource, SureSource};
 pub use shelves::{Fetched, Shelf, Stored};
 pub use sinks::{Put, Sink, SinkEnd, write_all};
 pub use sources::{Got, Source};
 pub use statuses::Status;
 pub use texts::{Text, WordList};
+
+#[cfg(test)]
+mod tests;

@@ -2,6 +2,9 @@
 use Rattle.std.proofs.Common.{◌≡◌, ℕ, Bool, true, false, ◌&&◌, not, cond, List, [], ◌∷◌, map, refl, ap, ◌∙◌, sym, subst, Option, None, Some}
 use Rattle.std.specs.Prelude.{if◌then◌else◌, option_and_then, IsTrue, Err}
 use Rattle.std.specs.List.{list_all}
+use Rattle.std.proofs.Common.{length}
+use Rattle.std.proofs.lemmas.List.{length-replicate}
+use Rattle.sp_model.specs.Rules.{IsLawful}
 use Rattle.sp_model.specs.declared.parts.ModelParts.{ModelParts}
 use Rattle.sp_lp.specs.declared.reader.Reader.{Reader}
 use Rattle.sp_lp.specs.declared.refusals.LpRefusal.{LpRefusal}
@@ -11,6 +14,7 @@ use Rattle.sp_lp.specs.Lines.{lines, words, ends_in_blank}
 use Rattle.sp_lp.specs.Files.{File, spelled, variables}
 use Rattle.sp_lp.specs.Reads.{Reads, model_of}
 use Rattle.sp_lp.specs.Machine.{start, fits, line_from, read_line, read_lines, run, parts_of, GivesReader}
+use Rattle.sp_lp.proofs.Lawful.{model-lawful}
 use Rattle.sp_lp.proofs.Sound.{Holds, IsRead, run-back}
 use Rattle.sp_lp.proofs.Complete.{read_of, run-file}
 
@@ -78,3 +82,7 @@ one-reading bytes names others parts more g h =
     let b = meant-read bytes others more h in
     let same : read_of g.file ≡ read_of h.file = cc in
     (g.names_are ∙ (ap (λ (u : Reader). u.names) same ∙ sym h.names_are), g.parts_are ∙ (ap parts_of same ∙ sym h.parts_are))
+
+-- what is meant keeps the rules of a model
+pub reads-lawful : (bytes : List ℕ) (names : List Word) (parts : ModelParts) → Reads bytes names parts → IsLawful parts × (length names ≡ length parts.lower)
+reads-lawful bytes names parts h = (rw (h.parts_are) (model-lawful h.file h.is_small), rw (h.names_are, h.parts_are) (sym (length-replicate _ _)))

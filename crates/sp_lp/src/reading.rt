@@ -1,5 +1,6 @@
 ghost use Rattle.std.specs.Prelude.{◌≡◌, ◌≤◌, ◌^◌, ℕ, List, length, IfOk};
 ghost use Rattle.sp_model.specs.declared.parts.ModelParts.{ModelParts};
+ghost use Rattle.sp_model.specs.Rules.{IsLawful};
 ghost use Rattle.sp_lp.specs.Words.{Word};
 ghost use Rattle.sp_lp.specs.Reads.{Reads};
 ghost use Rattle.sp_lp.specs.Lines.{lines};
@@ -76,6 +77,7 @@ pub fn read_lp(alloc: Global, bytes: &[u8]) -> Result<NamedModel, LpRefusal>
     requires { length bytes.now ≤ 2 ^ 26 }
     ensures found { IfOk result (λ r. Reads bytes.now r.names r.parts) }
     ensures syntax { result ≡ Err LpRefusal.Syntax → (names : List Word) (parts : ModelParts) → ¬ Reads bytes.now names parts }
+    ensures lawful { IfOk result (λ r. IsLawful r.parts × (length r.names ≡ length r.parts.lower)) }
 {
     match read(alloc, bytes) {
         Ok(reader) => match model_of(alloc, reader) {

@@ -1,0 +1,88 @@
+-- The reader's answer, and what a text means.
+use Rattle.std.proofs.Common.{◌≡◌, ℕ, Bool, true, false, ◌&&◌, not, cond, List, [], ◌∷◌, map, refl, ap, ◌∙◌, sym, subst, Option, None, Some}
+use Rattle.std.specs.Prelude.{if◌then◌else◌, option_and_then, IsTrue, Err}
+use Rattle.std.specs.List.{list_all}
+use Rattle.std.proofs.Common.{length}
+use Rattle.std.proofs.lemmas.List.{length-replicate}
+use Rattle.sp_model.specs.Rules.{IsLawful}
+use Rattle.sp_model.specs.declared.parts.ModelParts.{ModelParts}
+use Rattle.sp_lp.specs.declared.reader.Reader.{Reader}
+use Rattle.sp_lp.specs.declared.refusals.LpRefusal.{LpRefusal}
+use Rattle.sp_lp.specs.declared.refusals.LpRefusal.TheVariants.{Syntax, NoMemory}
+use Rattle.sp_lp.specs.Words.{Word}
+use Rattle.sp_lp.specs.Lines.{lines, words, ends_in_blank}
+use Rattle.sp_lp.specs.Files.{File, spelled, variables}
+use Rattle.sp_lp.specs.Reads.{Reads, model_of}
+use Rattle.sp_lp.specs.Machine.{start, fits, line_from, read_line, read_lines, run, parts_of, GivesReader}
+use Rattle.sp_lp.proofs.Lawful.{model-lawful}
+use Rattle.sp_lp.proofs.Sound.{Holds, IsRead, run-back}
+use Rattle.sp_lp.proofs.Complete.{read_of, run-file}
+
+-- no line ends in a blank
+abbrev trimmed : List (List ℕ) → Bool
+trimmed ls = list_all (λ line. not (ends_in_blank line)) ls
+
+-- a text that is read has no trailing blank, and is read as lines of words
+raw-more : (b more : Bool) (p : Option Reader) (f g : Reader → Option Reader) (t : Reader) → ((u : Reader) → f u ≡ Some t → (more ≡ true) × (g u ≡ Some t)) → option_and_then f (if b then None else p) ≡ Some t → ((not b && more) ≡ true) × (option_and_then g p ≡ Some t)
+raw-more true more p f g t rest e = cc
+raw-more false more None f g t rest e = cc
+raw-more false more (Some u) f g t rest e = rest u e
+
+raw-back : (s : Reader) (ls : List (List ℕ)) (t : Reader) → read_lines s ls ≡ Some t → (trimmed ls ≡ true) × (run fits s (map words ls) ≡ Some t)
+unfolding read_lines run read_line
+raw-back s [] t e = (refl, e)
+raw-back s (l ∷ ls) t e = raw-more (ends_in_blank l) (trimmed ls) (line_from fits s (words l)) (λ u. read_lines u ls) (λ u. run fits u (map words ls)) t (λ u. raw-back u ls t) e
+
+raw-one : (b more : Bool) (p : Option Reader) (f g : Reader → Option Reader) (t : Reader) → ((u : Reader) → more ≡ true → g u ≡ Some t → f u ≡ Some t) → (not b && more) ≡ true → option_and_then g p ≡ Some t → option_and_then f (if b then None else p) ≡ Some t
+raw-one true more p f g t rest h e = cc
+raw-one false more None f g t rest h e = cc
+raw-one false more (Some u) f g t rest h e = rest u h e
+
+raw-goes : (s : Reader) (ls : List (List ℕ)) (t : Reader) → trimmed ls ≡ true → run fits s (map words ls) ≡ Some t → read_lines s ls ≡ Some t
+unfolding read_lines run read_line
+raw-goes s [] t h e = e
+raw-goes s (l ∷ ls) t h e = raw-one (ends_in_blank l) (trimmed ls) (line_from fits s (words l)) (λ u. read_lines u ls) (λ u. run fits u (map words ls)) t (λ u. raw-goes u ls t) h e
+
+parts-same : (s : Reader) (f : File) → s.names ≡ variables f → s.maximize ≡ f.maximize → parts_of s ≡ model_of f
+parts-same s f names maximize = rw (names, maximize) refl
+
+holds : (o : Option Reader) (t : Reader) → o ≡ Some t → Holds o (λ u. u ≡ t)
+holds None t e = cc
+holds (Some u) t e = cc
+
+-- what is read is meant
+pub read-means : (bytes : List ℕ) (t : Reader) → read_lines start (lines bytes) ≡ Some t → Reads bytes t.names (parts_of t)
+read-means bytes t e =
+    let a = raw-back start (lines bytes) t e in
+    let b = run-back (map words (lines bytes)) (λ u. u ≡ t) (holds (run fits start (map words (lines bytes))) t a.1) in
+    let same : b.0 ≡ t = b.2 in
+    let h = b.1 in
+    record {
+      file = h.file;
+      is_small = h.is_small;
+      lines_are = h.lines_are;
+      trimmed = a.0;
+      names_are = ap (λ (u : Reader). u.names) (sym same) ∙ h.names_are;
+      parts_are = ap parts_of (sym same) ∙ parts-same b.0 h.file h.names_are h.maximize_is;
+    }
+
+-- what is meant is read
+pub meant-read : (bytes : List ℕ) (names : List Word) (parts : ModelParts) (h : Reads bytes names parts) → read_lines start (lines bytes) ≡ Some (read_of h.file)
+meant-read bytes names parts h =
+    raw-goes start (lines bytes) (read_of h.file) h.trimmed (ap (run fits start) h.lines_are ∙ run-file h.file h.is_small)
+
+-- a text that isn't read means nothing
+pub unread-means : (bytes : List ℕ) (r : LpRefusal) → GivesReader (Err r) (read_lines start (lines bytes)) → r ≡ Syntax → (names : List Word) (parts : ModelParts) → Reads bytes names parts → ⊥
+unread-means bytes Syntax e _ names parts h = let a = meant-read bytes names parts h in cc
+unread-means bytes NoMemory e same names parts h = cc
+
+pub one-reading : (bytes : List ℕ) (names others : List Word) (parts more : ModelParts) → Reads bytes names parts → Reads bytes others more → (names ≡ others) × (parts ≡ more)
+one-reading bytes names others parts more g h =
+    let a = meant-read bytes names parts g in
+    let b = meant-read bytes others more h in
+    let same : read_of g.file ≡ read_of h.file = cc in
+    (g.names_are ∙ (ap (λ (u : Reader). u.names) same ∙ sym h.names_are), g.parts_are ∙ (ap parts_of same ∙ sym h.parts_are))
+
+-- what is meant keeps the rules of a model
+pub reads-lawful : (bytes : List ℕ) (names : List Word) (parts : ModelParts) → Reads bytes names parts → IsLawful parts × (length names ≡ length parts.lower)
+reads-lawful bytes names parts h = (rw (h.parts_are) (model-lawful h.file h.is_small), rw (h.names_are, h.parts_are) (sym (length-replicate _ _)))

@@ -1,0 +1,14 @@
+//! The reader of small LP files: binaries, whole coefficients, rows with an upper side.
+#![tactic(auto)]
+
+mod cutting;
+mod kinds;
+mod naming;
+mod reader;
+mod reading;
+mod refusals;
+#[cfg(test)]
+mod tests;
+
+pub use reading::{NamedModel, one_model, read_lp};
+pub use refusals::LpRefusal;

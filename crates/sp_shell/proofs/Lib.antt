@@ -1,1 +1,3 @@
 mod OutputLemmas
+mod SolveLemmas
+mod StepLemmas

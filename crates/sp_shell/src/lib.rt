@@ -4,6 +4,8 @@
 mod journals;
 mod outputs;
 mod printing;
+mod solving;
+mod walks;
 mod wordings;
 
 pub use journals::{Entry, FetchNote, Journal, RunEnd, StoreNote};

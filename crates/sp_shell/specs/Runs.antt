@@ -1,0 +1,185 @@
+-- What a run is asked, notes, prints and answers.
+use Rattle.std.specs.Prelude.{◌≡◌, ◌≢◌, ℕ, ◌+◌, ◌*◌, ◌^◌, ◌<◌, ◌≤◌, max, ◌⊎◌, ◌==◌, if◌then◌else◌, List, [], ◌∷◌, ◌++◌, length, map, All, AllPairs, Option, None, Some, IfSome, ℤ, ◌≤ℤ◌}
+use Rattle.std.specs.List.{AllByRecursion}
+use Rattle.sp_base.specs.Told.{append, AppendsPart}
+use Rattle.sp_base.specs.Shelf.{Files, Fetches}
+use Rattle.sp_base.specs.declared.shelves.Fetched.{Fetched}
+use Rattle.sp_base.specs.declared.shelves.Fetched.TheVariants as fetched
+use Rattle.sp_base.specs.declared.statuses.Status.{Status}
+use Rattle.sp_base.specs.declared.statuses.Status.TheVariants as status
+use Rattle.sp_model.specs.declared.gaps.Gap.TheVariants as gap
+use Rattle.sp_model.specs.declared.gaps.Gaps.{Gaps}
+use Rattle.sp_model.specs.declared.parts.ModelParts.{ModelParts}
+use Rattle.sp_model.specs.Boxes.{point_count, room}
+use Rattle.sp_model.specs.Models.{Feasible, IsLeast, IsOptimum, objective, root_of}
+use Rattle.sp_model.specs.Cuts.{cut_of}
+use Rattle.sp_model.specs.Lists.{IsListAt}
+use Rattle.sp_lp.specs.Reads.{Reads}
+use Rattle.sp_shell.specs.declared.journals.Entry.{Entry}
+use Rattle.sp_shell.specs.declared.journals.Entry.TheVariants as entry
+use Rattle.sp_shell.specs.declared.journals.FetchNote.{FetchNote}
+use Rattle.sp_shell.specs.declared.journals.FetchNote.TheVariants as note
+use Rattle.sp_shell.specs.declared.journals.RunEnd.{RunEnd}
+use Rattle.sp_shell.specs.declared.journals.RunEnd.TheVariants as end
+use Rattle.sp_shell.specs.declared.wordings.Wording.{Wording}
+use Rattle.sp_shell.specs.declared.wordings.Wording.TheVariants as wording
+use Rattle.sp_shell.specs.Wording.{spelling}
+use Rattle.sp_shell.specs.Replies.{done_text, stopped_text}
+
+-- The words.
+
+-- the file that the words name: the only word, which has no dash in front
+abbrev pub file_word : List (List ℕ) → Option (List ℕ)
+file_word [] = None
+file_word ([] ∷ []) = Some []
+file_word ((b ∷ bs) ∷ []) = if b == 45 then None else Some (b ∷ bs)
+file_word (v ∷ w ∷ ws) = None
+
+-- The run of one model.
+
+-- without a gap: the list is that of the optimal points
+abbrev pub no_gap : Gaps
+no_gap = record { abs = gap.Of 0 0; rel = gap.Unlimited }
+
+-- the greatest number of nodes that a tree may have
+abbrev pub node_limit : ℕ
+node_limit = 200000
+
+-- the number of nodes of the largest tree of a model
+abbrev pub room_of : ModelParts → ℕ
+room_of m = room (point_count (root_of m))
+
+-- What is promised of the points that a run found, of its end and of the size of its tree.
+pub record IsLegal (m : ModelParts) (found : List (List ℤ)) (ended : RunEnd) (nodes : ℕ) : Type 0 where
+  -- the points are feasible and distinct
+  pub feasible : All (Feasible m) found
+  pub once : AllPairs (λ x y. x ≢ y) found
+  -- they lie within the cut
+  pub near : (best : ℤ) → IsLeast m best → All (λ x. objective m x ≤ℤ cut_of best no_gap m.scale) found
+  -- the node limit stops a run only where the tree has no room for another split, and the limit is below what it can need
+  pub full : ended ≡ end.NodeLimit → node_limit < nodes + 2
+  pub limited : ended ≡ end.NodeLimit → node_limit < room_of m
+  pub within : ended ≡ end.NodeLimit → nodes ≤ node_limit
+  -- a tree has an odd number of nodes, and at most the room of its model
+  pub odd : (half : ℕ) × (nodes ≡ 2 * half + 1)
+  pub bounded : nodes ≤ room_of m
+
+-- the reply that lists all: the found points are the list
+pub record ListsAll (names : List (List ℕ)) (m : ModelParts) (found : List (List ℤ)) (text : List ℕ) : Type 0 where
+  pub best : Option ℤ
+  pub optimum : IsOptimum m best
+  pub listed : IsListAt m no_gap best found
+  pub text_is : text ≡ done_text names m best found
+
+-- the reply to a run that ended so
+abbrev pub Replies : List (List ℕ) → ModelParts → List (List ℤ) → RunEnd → ℕ → List ℕ → Type 0
+Replies names m found end.Done nodes text = ListsAll names m found text
+Replies names m found end.NodeLimit nodes text = text ≡ stopped_text nodes
+Replies names m found end.Optimal nodes text = ⊥
+Replies names m found end.Infeasible nodes text = ⊥
+Replies names m found end.PopulateLimit nodes text = ⊥
+
+-- what is noted of a run
+abbrev pub run_entries : List (List ℤ) → RunEnd → ℕ → List Entry
+run_entries found ended nodes = map entry.Found found ++ entry.Ended ended nodes ∷ []
+
+-- The file.
+
+-- one line says why the file is refused, and nothing more is noted
+pub record Refuses (why : Wording) (rest : List Entry) (text : List ℕ) (s : Status) : Type 0 where
+  pub nothing_more : rest ≡ []
+  pub line : text ≡ spelling why
+  pub status_is : s ≡ status.SomeRefused
+
+-- the bytes are no file of the grammar
+pub record IsSyntax (bytes : List ℕ) (rest : List Entry) (text : List ℕ) (s : Status) : Type 0 where
+  pub unread : (names : List (List ℕ)) (m : ModelParts) → ¬ Reads bytes names m
+  pub refused : Refuses wording.Syntax rest text s
+
+-- the bytes are a file of the grammar, and its model was run
+pub record IsRun (bytes : List ℕ) (rest : List Entry) (text : List ℕ) (s : Status) : Type 0 where
+  pub names : List (List ℕ)
+  pub m : ModelParts
+  pub reads : Reads bytes names m
+  pub found : List (List ℤ)
+  pub ended : RunEnd
+  pub nodes : ℕ
+  pub entries : rest ≡ run_entries found ended nodes
+  pub reply : Replies names m found ended nodes text
+  pub legal : IsLegal m found ended nodes
+  pub status_is : s ≡ status.Clean
+
+-- what follows the shelf's answer
+abbrev pub Follows : FetchNote → List Entry → List ℕ → Status → Type 0
+Follows (note.Bytes bytes) rest text s = IsSyntax bytes rest text s ⊎ IsRun bytes rest text s
+Follows note.Absent rest text s = Refuses wording.FileAbsent rest text s
+Follows note.Failed rest text s = Refuses wording.FileFault rest text s
+Follows note.TooLong rest text s = Refuses wording.FileTooLong rest text s
+
+-- The text of a run, with the journal and the status.
+
+-- the words are no reading
+pub record IsUsage (entries : List Entry) (text : List ℕ) (s : Status) : Type 0 where
+  pub nothing_noted : entries ≡ []
+  pub line : text ≡ spelling wording.Usage
+  pub status_is : s ≡ status.Usage
+
+-- the shelf was asked for the file once, and the rest follows from its answer
+pub record IsFileRun (entries : List Entry) (text : List ℕ) (s : Status) : Type 0 where
+  pub answer : FetchNote
+  pub rest : List Entry
+  pub noted : entries ≡ entry.Fetched answer ∷ rest
+  pub follows : Follows answer rest text s
+
+abbrev pub Text : Option (List ℕ) → List Entry → List ℕ → Status → Type 0
+Text None entries text s = IsUsage entries text s
+Text (Some name) entries text s = IsFileRun entries text s
+
+-- What went out.
+
+-- the whole text
+pub record PutsAll (file : Option (List ℕ)) (entries : List Entry) (s : Status) (old new : Option (List ℕ)) : Type 0 where
+  pub text : List ℕ
+  pub said : Text file entries text s
+  pub held : new ≡ append old text
+
+-- a front part of the text
+pub record PutsPart (file : Option (List ℕ)) (entries : List Entry) (old new : Option (List ℕ)) : Type 0 where
+  pub text : List ℕ
+  pub meant : Status
+  pub said : Text file entries text meant
+  pub held : AppendsPart old new text
+
+-- nothing, and at most the shelf's answer is noted
+pub record PutsNothing (entries : List Entry) (old new : Option (List ℕ)) : Type 0 where
+  pub held : new ≡ old
+  pub noted : (entries ≡ []) ⊎ ((answer : FetchNote) × (entries ≡ entry.Fetched answer ∷ []))
+
+abbrev pub Outcome : Option (List ℕ) → List Entry → Status → Option (List ℕ) → Option (List ℕ) → Type 0
+Outcome file entries status.Clean old new = PutsAll file entries status.Clean old new
+Outcome file entries status.SomeRefused old new = PutsAll file entries status.SomeRefused old new
+Outcome file entries status.Usage old new = PutsAll file entries status.Usage old new
+Outcome file entries status.SinkFault old new = PutsPart file entries old new
+Outcome file entries status.NoMemory old new = PutsPart file entries old new ⊎ PutsNothing entries old new
+Outcome file entries status.SourceFault old new = ⊥
+Outcome file entries status.StreamTooLong old new = ⊥
+
+-- The shelf's part.
+
+-- the most bytes that a model file may have
+abbrev pub file_limit : ℕ
+file_limit = 2 ^ 26
+
+-- the shelf's answer that is noted so
+abbrev pub answer_of : FetchNote → Fetched
+answer_of (note.Bytes bytes) = fetched.Bytes bytes
+answer_of note.Absent = fetched.Absent
+answer_of note.TooLong = fetched.TooLong
+answer_of note.Failed = fetched.Failed
+
+-- what a note says of the told files
+abbrev pub IsTrueOf : Option Files → Option (List ℕ) → Entry → Type 0
+IsTrueOf files file (entry.Fetched answer) = IfSome file (λ name. Fetches (answer_of answer) files name file_limit)
+IsTrueOf files file (entry.Stored stored) = ⊥
+IsTrueOf files file (entry.Found x) = Unit {0}
+IsTrueOf files file (entry.Ended ended nodes) = Unit {0}

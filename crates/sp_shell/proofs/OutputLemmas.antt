@@ -1,5 +1,5 @@
 -- How printed pieces add up.
-use Rattle.std.specs.Prelude.{ℤ, pos}
+use Rattle.std.specs.Prelude.{ℤ, pos, flat_map}
 use Rattle.std.proofs.Common.{◌≡◌, ℕ, suc, ◌+◌, ◌<◌, List, [], ◌∷◌, ◌++◌, length, get_or, drop, Option, Bor, refl, sym, ap, ◌∙◌, add-one}
 use Rattle.std.proofs.Math.Seq.{drop-cons}
 use Rattle.std.proofs.lemmas.List.{append_assoc, append-nil}
@@ -101,3 +101,8 @@ first_fails {old} {new} before first second p =
     record { part = p.part; rest = p.rest ++ second; whole = sym (append_assoc before first second) ∙ ap (λ xs. xs ++ second) p.whole ∙ append_assoc p.part p.rest second; told = p.told }
 
 pub ruleset then_rules = (then_printed, then_fails, first_fails)
+
+-- one item more of the texts of a list
+pub flat_map_drop : {X : Type 0} (f : X → List ℕ) (xs : List X) (i : ℕ) (x : X) → i < length xs → x ≡ get_or xs i x
+    → flat_map f (drop i xs) ≡ f x ++ flat_map f (drop (i + 1) xs)
+flat_map_drop f xs i x h e = rw (add-one, drop-cons xs i x h) (ap (λ y. f y ++ flat_map f (drop (suc i) xs)) (sym e))

@@ -1,9 +1,12 @@
 -- The text of the replies.
-use Rattle.std.specs.Prelude.{ℕ, Bool, cond, List, [], ◌∷◌, ◌++◌, length, flat_map, Option, None, Some, ℤ, pos, neg_ℤ}
+use Rattle.std.specs.Prelude.{◌≡◌, ℕ, Bool, cond, List, [], ◌∷◌, ◌++◌, length, flat_map, Option, None, Some, ℤ, pos, neg_ℤ}
 use Rattle.std.specs.Ordering.{int_eq}
 use Rattle.std.specs.Fmt.{decimal, signed_decimal}
 use Rattle.sp_model.specs.declared.parts.ModelParts.{ModelParts}
-use Rattle.sp_model.specs.Models.{objective}
+use Rattle.sp_model.specs.Boxes.{IsWithin}
+use Rattle.sp_model.specs.Models.{objective, root_of}
+use Rattle.sp_shell.specs.declared.journals.Entry.{Entry}
+use Rattle.sp_shell.specs.declared.journals.Entry.TheVariants as entry
 use Rattle.sp_shell.specs.declared.wordings.Wording.TheVariants as wording
 use Rattle.sp_shell.specs.Wording.{spelling}
 
@@ -47,3 +50,17 @@ done_text names m best xs = done_head m.maximize best (length xs) ++ flat_map (s
 -- the reply of a run that the node limit stopped
 unfoldable pub stopped_text : ℕ → List ℕ
 stopped_text nodes = spelling wording.StatusNodeLimit ++ spelling wording.Nodes ++ decimal nodes ++ spelling wording.LineEnd
+
+-- the line of a noted point, and nothing for the other notes
+unfoldable pub entry_line : List (List ℕ) → ModelParts → Entry → List ℕ
+entry_line names m (entry.Found x) = solution_line names m x
+entry_line names m (entry.Fetched answer) = []
+entry_line names m (entry.Stored answer) = []
+entry_line names m (entry.Ended ended nodes) = []
+
+-- a noted point has a value for each name, within the bounds
+abbrev pub IsPrintable : List (List ℕ) → ModelParts → Entry → Type 0
+IsPrintable names m (entry.Found x) = IsWithin (root_of m) x × (length x ≡ length names)
+IsPrintable names m (entry.Fetched answer) = Unit {0}
+IsPrintable names m (entry.Stored answer) = Unit {0}
+IsPrintable names m (entry.Ended ended nodes) = Unit {0}

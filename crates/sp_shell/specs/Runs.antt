@@ -1,5 +1,5 @@
 -- What a run is asked, notes, prints and answers.
-use Rattle.std.specs.Prelude.{◌≡◌, ◌≢◌, ℕ, ◌+◌, ◌*◌, ◌^◌, ◌<◌, ◌≤◌, max, ◌⊎◌, ◌==◌, if◌then◌else◌, List, [], ◌∷◌, ◌++◌, length, map, All, AllPairs, Option, None, Some, IfSome, ℤ, ◌≤ℤ◌}
+use Rattle.std.specs.Prelude.{◌≡◌, ◌≢◌, ℕ, ◌+◌, ◌*◌, ◌^◌, ◌<◌, ◌≤◌, max, ◌⊎◌, ◌==◌, Bool, true, false, if◌then◌else◌, List, [], ◌∷◌, ◌++◌, length, map, All, AllPairs, Option, None, Some, IfSome, ℤ, ◌≤ℤ◌}
 use Rattle.std.specs.List.{AllByRecursion}
 use Rattle.sp_base.specs.Told.{append, AppendsPart}
 use Rattle.sp_base.specs.Shelf.{Files, Fetches}
@@ -19,6 +19,8 @@ use Rattle.sp_shell.specs.declared.journals.Entry.{Entry}
 use Rattle.sp_shell.specs.declared.journals.Entry.TheVariants as entry
 use Rattle.sp_shell.specs.declared.journals.FetchNote.{FetchNote}
 use Rattle.sp_shell.specs.declared.journals.FetchNote.TheVariants as note
+use Rattle.sp_shell.specs.declared.journals.StoreNote.{StoreNote}
+use Rattle.sp_shell.specs.declared.journals.StoreNote.TheVariants as stored
 use Rattle.sp_shell.specs.declared.journals.RunEnd.{RunEnd}
 use Rattle.sp_shell.specs.declared.journals.RunEnd.TheVariants as end
 use Rattle.sp_shell.specs.declared.wordings.Wording.{Wording}
@@ -131,23 +133,24 @@ pub record IsFileRun (entries : List Entry) (text : List ℕ) (s : Status) : Typ
   pub noted : entries ≡ entry.Fetched answer ∷ rest
   pub follows : Follows answer rest text s
 
+-- what a run over these words says, once it is known which file they name
 abbrev pub Text : Option (List ℕ) → List Entry → List ℕ → Status → Type 0
-Text None entries text s = IsUsage entries text s
-Text (Some name) entries text s = IsFileRun entries text s
+Text None = IsUsage
+Text (Some name) = IsFileRun
 
 -- What went out.
 
 -- the whole text
-pub record PutsAll (file : Option (List ℕ)) (entries : List Entry) (s : Status) (old new : Option (List ℕ)) : Type 0 where
+pub record PutsAll (says : List Entry → List ℕ → Status → Type 0) (entries : List Entry) (s : Status) (old new : Option (List ℕ)) : Type 0 where
   pub text : List ℕ
-  pub said : Text file entries text s
+  pub said : says entries text s
   pub held : new ≡ append old text
 
 -- a front part of the text
-pub record PutsPart (file : Option (List ℕ)) (entries : List Entry) (old new : Option (List ℕ)) : Type 0 where
+pub record PutsPart (says : List Entry → List ℕ → Status → Type 0) (entries : List Entry) (old new : Option (List ℕ)) : Type 0 where
   pub text : List ℕ
   pub meant : Status
-  pub said : Text file entries text meant
+  pub said : says entries text meant
   pub held : AppendsPart old new text
 
 -- nothing, and at most the shelf's answer is noted
@@ -155,14 +158,14 @@ pub record PutsNothing (entries : List Entry) (old new : Option (List ℕ)) : Ty
   pub held : new ≡ old
   pub noted : (entries ≡ []) ⊎ ((answer : FetchNote) × (entries ≡ entry.Fetched answer ∷ []))
 
-abbrev pub Outcome : Option (List ℕ) → List Entry → Status → Option (List ℕ) → Option (List ℕ) → Type 0
-Outcome file entries status.Clean old new = PutsAll file entries status.Clean old new
-Outcome file entries status.SomeRefused old new = PutsAll file entries status.SomeRefused old new
-Outcome file entries status.Usage old new = PutsAll file entries status.Usage old new
-Outcome file entries status.SinkFault old new = PutsPart file entries old new
-Outcome file entries status.NoMemory old new = PutsPart file entries old new ⊎ PutsNothing entries old new
-Outcome file entries status.SourceFault old new = ⊥
-Outcome file entries status.StreamTooLong old new = ⊥
+abbrev pub Outcome : (List Entry → List ℕ → Status → Type 0) → List Entry → Status → Option (List ℕ) → Option (List ℕ) → Type 0
+Outcome says entries status.Clean old new = PutsAll says entries status.Clean old new
+Outcome says entries status.SomeRefused old new = PutsAll says entries status.SomeRefused old new
+Outcome says entries status.Usage old new = PutsAll says entries status.Usage old new
+Outcome says entries status.SinkFault old new = PutsPart says entries old new
+Outcome says entries status.NoMemory old new = PutsPart says entries old new ⊎ PutsNothing entries old new
+Outcome says entries status.SourceFault old new = ⊥
+Outcome says entries status.StreamTooLong old new = ⊥
 
 -- The shelf's part.
 
@@ -177,9 +180,28 @@ answer_of note.Absent = fetched.Absent
 answer_of note.TooLong = fetched.TooLong
 answer_of note.Failed = fetched.Failed
 
--- what a note says of the told files
-abbrev pub IsTrueOf : Option Files → Option (List ℕ) → Entry → Type 0
-IsTrueOf files file (entry.Fetched answer) = IfSome file (λ name. Fetches (answer_of answer) files name file_limit)
-IsTrueOf files file (entry.Stored stored) = ⊥
-IsTrueOf files file (entry.Found x) = Unit {0}
-IsTrueOf files file (entry.Ended ended nodes) = Unit {0}
+-- what a note says of the told files, where the words name this one
+abbrev pub IsTrueOf : Option Files → List ℕ → Entry → Type 0
+IsTrueOf files name (entry.Fetched answer) = Fetches (answer_of answer) files name file_limit
+IsTrueOf files name (entry.Stored answer) = ⊥
+IsTrueOf files name (entry.Found x) = Unit {0}
+IsTrueOf files name (entry.Ended ended nodes) = Unit {0}
+
+-- each note of the shelf's answers is true of the told files
+abbrev pub AreTrueOf : Option Files → Option (List ℕ) → List Entry → Type 0
+AreTrueOf files None entries = entries ≡ []
+AreTrueOf files (Some name) entries = AllByRecursion (IsTrueOf files name) entries
+
+-- a note that the file wasn't there; that it was too long; that the shelf failed
+abbrev pub is_absence : Entry → Bool
+is_absence (entry.Fetched note.Absent) = true
+is_absence e = false
+
+abbrev pub is_overrun : Entry → Bool
+is_overrun (entry.Fetched note.TooLong) = true
+is_overrun e = false
+
+abbrev pub is_fault : Entry → Bool
+is_fault (entry.Fetched note.Failed) = true
+is_fault (entry.Stored stored.Failed) = true
+is_fault e = false

@@ -4,6 +4,7 @@
 mod journals;
 mod outputs;
 mod printing;
+mod replying;
 mod solving;
 mod walks;
 mod wordings;

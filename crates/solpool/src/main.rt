@@ -3,6 +3,7 @@
 
 mod inputs;
 mod outputs;
+mod reading;
 mod shelving;
 mod wording;
 
@@ -25,3 +26,6 @@ fn main(rt: HostRuntime) -> ExitCode {
     let ending = run(alloc, &words, &mut source, &mut shelf, &mut sink);
     ExitCode::from(ending.status.code())
 }
+
+#[cfg(test)]
+mod tests;

@@ -2,15 +2,13 @@
 ghost use Rattle.std.specs.Prelude.{ℕ, List, None};
 ghost use Rattle.sp_base.specs.Shelf.{Fetches};
 
+use crate::reading::{contents, refused};
 use sp_base::{Fetched, Shelf, Stored, Text};
 use std::alloc::Global;
 use std::fs::{File, OpenFile, OpenOptions};
-use std::io::{Error, ErrorKind, Read, Write};
+use std::io::{Error, ErrorKind, Write};
 use std::rt::Files;
 use std::{io, str};
-
-/// How many bytes are asked of a file at once.
-const PIECE: usize = 65536;
 
 /// The files that the system has, by their paths, with counts of what went wrong. It tells nothing of the files.
 #[derive(Drop)]
@@ -93,53 +91,12 @@ fn fetch<R: Files>(alloc: Global, files: &R, name: &[u8], limit: u64) -> Fetched
     }
 }
 
-/// What is answered where a file can't be opened or read.
-fn refused(error: &Error) -> Fetched
-    ensures { (path : List ℕ) (limit : ℕ) → Fetches result None path limit }
-{
-    match error.kind() {
-        ErrorKind::NotFound => Fetched::Absent,
-        ErrorKind::OutOfMemory => Fetched::NoMemory,
-        _ => Fetched::Failed,
-    }
-}
-
 /// Whether this is a plain file that the system says to have more than `limit` bytes. Such a file isn't read.
 fn is_longer<F: OpenFile>(file: &F, limit: u64) -> bool {
     match file.metadata() {
         Ok(told) => told.is_file() && told.len() > limit,
         Err(_) => false,
     }
-}
-
-/// All bytes of a reader, if there are at most `limit` of them. At most one byte more is taken, and memory grows with what
-/// was read.
-fn contents<F: Read>(alloc: Global, file: &mut F, limit: u64) -> Fetched
-    ensures { (path : List ℕ) → Fetches result None path limit }
-{
-    let mut bytes = Vec::new(alloc);
-    let mut piece = [0u8; PIECE];
-    for _ in 0..u64::MAX {
-        let room = limit - bytes.len() as u64;
-        let most = room.min(PIECE as u64 - 1) as usize + 1;
-        match file.read(&mut piece[..most]) {
-            Ok(0) => return Fetched::Bytes(Text::from_vec(bytes)),
-            Ok(count) => {
-                if count as u64 > room {
-                    return Fetched::TooLong;
-                }
-                if bytes.extend_from_slice(&piece[..count]).is_err() {
-                    return Fetched::NoMemory;
-                }
-            }
-            Err(error) => {
-                if error.kind() != ErrorKind::Interrupted {
-                    return refused(&error);
-                }
-            }
-        }
-    }
-    Fetched::Failed
 }
 
 /// Makes the file at a path, or empties it, and writes these bytes.

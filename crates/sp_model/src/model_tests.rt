@@ -5,7 +5,6 @@ use crate::parts::{Indicator, ModelParts, Row, Sos, SosKind};
 use crate::points::Point;
 use crate::refusal::BuildRefusal;
 use std::alloc::{AllocError, Global};
-use std::process::Abort;
 use std::test::Fail;
 
 const WIDEST: i128 = 1_000_000_000_000_000_000_000_000_000_000_000_000;
@@ -202,7 +201,7 @@ fn first_wrong(alloc: Global, cases: &[Case]) -> Result<Option<usize>, AllocErro
     Ok(None)
 }
 
-static VARIABLES: [Case; 8] = [
+static CASES: [Case; 36] = [
     (&[], Refused::Nothing, 0),
     (&[Change::Fixed(2_000)], Refused::Nothing, 0),
     (
@@ -237,9 +236,6 @@ static VARIABLES: [Case; 8] = [
         Refused::Bound,
         1,
     ),
-];
-
-static OBJECTIVES: [Case; 10] = [
     (
         &[Change::Scale(31), Change::Row(&[(9, 1)], 1)],
         Refused::Objective,
@@ -270,9 +266,6 @@ static OBJECTIVES: [Case; 10] = [
         Refused::Objective,
         0,
     ),
-];
-
-static ROWS: [Case; 9] = [
     (&[Change::Row(&[(0, 1), (3, 1)], 1)], Refused::Row, 0),
     (
         &[
@@ -297,9 +290,6 @@ static ROWS: [Case; 9] = [
         Refused::Row,
         10_000,
     ),
-];
-
-static INDICATORS_AND_SETS: [Case; 9] = [
     (&[Change::Indicator(3, &[], 1)], Refused::Indicator, 0),
     (&[Change::Indicator(1, &[], 1)], Refused::Indicator, 0),
     (
@@ -326,67 +316,88 @@ static INDICATORS_AND_SETS: [Case; 9] = [
     (&[Change::Set(&[2, 0], 1_001)], Refused::Sos, 1_000),
 ];
 
+fn cases() -> &'static [Case] {
+    &CASES
+}
+
 #[test]
 fn refuses_the_first_broken_rule(rt: HostRuntime) -> Result<(), Fail> {
-    assert_eq!(rt; first_wrong(rt.alloc(), &VARIABLES)?, None);
-    assert_eq!(rt; first_wrong(rt.alloc(), &OBJECTIVES)?, None);
-    assert_eq!(rt; first_wrong(rt.alloc(), &ROWS)?, None);
-    assert_eq!(rt; first_wrong(rt.alloc(), &INDICATORS_AND_SETS)?, None);
+    let wrong = first_wrong(rt.alloc(), cases())?;
+    assert_eq!(rt; wrong, None);
     Ok(())
 }
 
 type Tried = (SosKind, bool, [i64; 3], bool, i128);
 
-/// Whether a point has been found to be feasible and of that value as it should.
-fn is_as_told(rt: &impl Abort, alloc: Global, tried: &Tried) -> Result<bool, Fail> {
-    let (kind, on, values, feasible, value) = tried;
-    let model = Model::build(alloc, plain(alloc, *kind, *on)?)?;
-    let point = Point::from_vec(Vec::from_slice(alloc, values)?);
-    assert!(rt; model.is_within(&point));
-    Ok(model.feasible(&point) == *feasible && model.value(&point) == *value)
+/// Whether the point is feasible, and its value, where it lies within the bounds.
+fn judged(model: &Model, point: &Point) -> Option<(bool, i128)> {
+    if !model.is_within(point) {
+        return None;
+    }
+    Some((model.feasible(point), model.value(point)))
 }
 
-static POINTS: [Tried; 13] = [
-    (SosKind::Two, true, [0, 0, 0], true, 7),
-    (SosKind::Two, true, [1, 2, 0], true, 8),
-    (SosKind::Two, true, [1, 3, 0], false, 7),
-    (SosKind::Two, false, [1, 3, 0], true, 7),
-    (SosKind::Two, false, [0, 3, 0], false, 4),
-    (SosKind::Two, true, [0, 4, 0], true, 3),
-    (SosKind::Two, true, [0, 5, 0], false, 2),
-    (SosKind::Two, true, [0, 3, 1], true, 14),
-    (SosKind::Two, true, [1, 0, 1], false, 20),
-    (SosKind::Two, true, [1, 1, 1], false, 19),
-    (SosKind::One, true, [0, 3, 1], false, 14),
-    (SosKind::One, true, [0, 0, -1], true, -3),
-    (SosKind::Two, true, [0, 0, -2], false, -13),
-];
+fn is_as_told(alloc: Global, tried: &Tried) -> Result<bool, Fail> {
+    let (kind, on, values, feasible, value) = tried;
+    let parts = plain(alloc, *kind, *on)?;
+    let model = Model::build(alloc, parts)?;
+    let point = Point::from_vec(Vec::from_slice(alloc, values)?);
+    Ok(judged(&model, &point) == Some((*feasible, *value)))
+}
+
+fn tried_points() -> &'static [Tried] {
+    &[
+        (SosKind::Two, true, [0, 0, 0], true, 7),
+        (SosKind::Two, true, [1, 2, 0], true, 8),
+        (SosKind::Two, true, [1, 3, 0], false, 7),
+        (SosKind::Two, false, [1, 3, 0], true, 7),
+        (SosKind::Two, false, [0, 3, 0], false, 4),
+        (SosKind::Two, true, [0, 4, 0], true, 3),
+        (SosKind::Two, true, [0, 5, 0], false, 2),
+        (SosKind::Two, true, [0, 3, 1], true, 14),
+        (SosKind::Two, true, [1, 0, 1], false, 20),
+        (SosKind::Two, true, [1, 1, 1], false, 19),
+        (SosKind::One, true, [0, 3, 1], false, 14),
+        (SosKind::One, true, [0, 0, -1], true, -3),
+        (SosKind::Two, true, [0, 0, -2], false, -13),
+    ]
+}
 
 #[test]
 fn tells_feasible_points_and_values(rt: HostRuntime) -> Result<(), Fail> {
-    for tried in POINTS.as_slice() {
-        assert!(rt; is_as_told(&rt, rt.alloc(), tried)?);
+    for tried in tried_points() {
+        assert!(rt; is_as_told(rt.alloc(), tried)?);
     }
     Ok(())
 }
 
+fn bounds_of(model: &Model, at: u32) -> Option<(i64, i64)> {
+    if model.parts().lower.len() <= at as usize {
+        return None;
+    }
+    Some(model.bounds(VarId::new(at)))
+}
+
+fn has_root(alloc: Global, model: &Model, least: &[i64], greatest: &[i64]) -> Result<bool, Fail> {
+    let root = model.root(alloc)?;
+    Ok(root.lower.as_slice() == least && root.upper.as_slice() == greatest)
+}
+
 #[test]
 fn shows_bounds_and_root(rt: HostRuntime) -> Result<(), Fail> {
-    let model = Model::build(rt.alloc(), plain(rt.alloc(), SosKind::One, true)?)?;
-    assert_eq!(rt; model.parts().lower.len(), 3);
-    assert_eq!(rt; model.bounds(VarId::new(2)), (-2, 2));
-    let root = model.root(rt.alloc())?;
-    assert_eq!(rt; root.lower.as_slice(), [0, 0, -2].as_slice());
-    assert_eq!(rt; root.upper.as_slice(), [1, 5, 2].as_slice());
+    let parts = plain(rt.alloc(), SosKind::One, true)?;
+    let model = Model::build(rt.alloc(), parts)?;
+    assert_eq!(rt; bounds_of(&model, 2), Some((-2, 2)));
+    assert_eq!(rt; bounds_of(&model, 3), None);
+    assert!(rt; has_root(rt.alloc(), &model, &[0, 0, -2], &[1, 5, 2])?);
     Ok(())
 }
 
 #[test]
 fn takes_no_variables_at_all(rt: HostRuntime) -> Result<(), Fail> {
-    let model = Model::build(rt.alloc(), empty(rt.alloc())?)?;
+    let parts = empty(rt.alloc())?;
+    let model = Model::build(rt.alloc(), parts)?;
     let point = Point::new(rt.alloc());
-    assert!(rt; model.is_within(&point));
-    assert!(rt; model.feasible(&point));
-    assert_eq!(rt; model.value(&point), -5);
+    assert_eq!(rt; judged(&model, &point), Some((true, -5)));
     Ok(())
 }

@@ -1,5 +1,5 @@
 -- Sources, sinks and shelves in memory: what they hold, and what they are after each answer.
-use Rattle.std.specs.Prelude.{◌≡◌, ℕ, ◌==◌, Bool, if◌then◌else◌, List, ◌++◌, take, drop}
+use Rattle.std.specs.Prelude.{ℕ, ◌==◌, Bool, if◌then◌else◌, List, ◌++◌, take, drop}
 use Rattle.std.specs.List.{list_any}
 use Rattle.sp_base.specs.Counts.{raised}
 use Rattle.std.specs.Prelude.{refl, map, Vec}

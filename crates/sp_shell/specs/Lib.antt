@@ -1,4 +1,5 @@
 pub mod Outputs
+pub mod Ready
 pub mod Replies
 pub mod Runs
 pub mod Solving

@@ -3,6 +3,7 @@
 
 mod journals;
 mod outputs;
+mod preparing;
 mod printing;
 mod replying;
 mod solving;

@@ -1,3 +1,4 @@
+pub mod Endings
 pub mod Outputs
 pub mod Ready
 pub mod Replies

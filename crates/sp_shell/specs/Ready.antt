@@ -1,7 +1,8 @@
 -- A run of a model whose reply can be printed.
-use Rattle.std.specs.Prelude.{◌≡◌, ℕ, ◌^◌, ◌≤◌, List, [], ◌∷◌, length, Bool, true, false, IsTrue, ℤ}
+use Rattle.std.specs.Prelude.{◌≡◌, ℕ, ◌^◌, ◌≤◌, List, [], ◌∷◌, length, Bool, true, false, IsTrue, IfSome, unsigned_abs, ℤ}
 use Rattle.std.specs.List.{list_all}
 use Rattle.sp_model.specs.declared.parts.ModelParts.{ModelParts}
+use Rattle.sp_model.specs.Models.{root_of}
 use Rattle.sp_shell.specs.declared.journals.Entry.{Entry}
 use Rattle.sp_shell.specs.declared.journals.Entry.TheVariants as entry
 use Rattle.sp_shell.specs.declared.preparing.Ready.{Ready}
@@ -12,7 +13,8 @@ use Rattle.sp_shell.specs.Solving.{EndsWith}
 pub record IsReady (names : List (List ℕ)) (m : ModelParts) (ready : Ready) (rest : List Entry) : Type 0 where
   pub names_are : ready.names ≡ names
   pub model_is : ready.model ≡ m
-  pub named : length names ≡ length m.lower
+  pub named : length names ≡ length (root_of m)
+  pub small : IfSome ready.best (λ v. unsigned_abs v ≤ 10 ^ 36)
   pub found : List (List ℤ)
   pub entries : rest ≡ run_entries found ready.end ready.nodes
   pub number : ready.number ≡ length found

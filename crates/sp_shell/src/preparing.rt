@@ -1,6 +1,6 @@
 //! The run of a model up to its reply: all that takes memory is done here.
 ghost use Rattle.std.specs.Prelude.{◌≡◌, ◌++◌, ◌∷◌, [], map, length, IfOk};
-ghost use Rattle.sp_model.specs.Lists.{points_of};
+ghost use Rattle.sp_model.specs.Models.{root_of};
 ghost use Rattle.sp_model.specs.Rules.{IsLawful};
 
 use crate::journals::{Entry, RunEnd};
@@ -29,22 +29,24 @@ pub struct Ready {
 
 ghost use Rattle.sp_shell.specs.Ready.{IsReady};
 
+/// The note of a found point.
+fn note(found: Found) -> Entry
+    ensures { result ≡ Entry.Found found.point }
+{
+    let Found { point, .. } = found;
+    Entry::Found(point)
+}
+
 /// A note of each point, in their order.
 fn note_points(alloc: Global, listed: Vec<Found>) -> Result<Vec<Entry>, AllocError>
-    ensures { IfOk result (λ notes. notes.items ≡ map Entry.Found (points_of listed.items)) }
+    ensures { IfOk result (λ notes. notes.items ≡ map (λ f. Entry.Found f.point) listed.items) }
 {
-    listed
-        .into_iter()
-        .map(|found| {
-            let Found { point, .. } = found;
-            Entry::Found(point)
-        })
-        .collect(alloc)
+    listed.into_iter().map(note).collect(alloc)
 }
 
 /// The run of a model that was built.
 fn run_model(alloc: Global, names: WordList, model: Model) -> Result<(Ready, Vec<Entry>), NoMemory>
-    requires { length names ≡ length model.lower }
+    requires { length names ≡ length (root_of model) }
     ensures { IfOk result (λ x. IsReady names model x.0 x.1.items) }
 {
     let Solved {

@@ -1,11 +1,10 @@
 -- Sources, sinks and shelves in memory: what they hold, and what they are after each answer.
-use Rattle.std.specs.Prelude.{◌≡◌, ℕ, ◌==◌, Bool, if◌then◌else◌, List, ◌++◌, take, drop}
+use Rattle.std.specs.Prelude.{ℕ, ◌==◌, Bool, if◌then◌else◌, List, ◌++◌, take, drop, map, Vec, refl}
 use Rattle.std.specs.List.{list_any}
-use Rattle.sp_base.specs.Counts.{raised}
-use Rattle.std.specs.Prelude.{refl, map, Vec}
 use Rattle.std.specs.declared.alloc.Global.{Global}
 use Rattle.std.specs.Coded.{Coded, code_by, coded×, coded_ℕ, coded_list}
 use Rattle.std.specs.FinMap as finite
+use Rattle.sp_base.specs.Counts.{raised}
 use Rattle.sp_base.specs.Shelf.{Files, with_file}
 use Rattle.sp_base.specs.declared.shelves.Fetched.{Fetched}
 use Rattle.sp_base.specs.declared.shelves.Fetched.TheVariants as fetched

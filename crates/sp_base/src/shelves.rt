@@ -34,12 +34,16 @@ pub enum Stored {
 /// A shelf of files. It may tell its files, and counts its faults, the reads of files that weren't there
 /// (absences) and the reads of files that were too long (overruns).
 pub trait Shelf {
+    // Its files, where they are told.
     ghost files: { Self → Option Files };
 
+    // How many reads and writes failed.
     ghost faults: { Self → ℕ };
 
+    // How many reads named no file.
     ghost absences: { Self → ℕ };
 
+    // How many reads met a file that was too long.
     ghost overruns: { Self → ℕ };
 
     /// The bytes of the file `name`, if there are at most `limit` of them.

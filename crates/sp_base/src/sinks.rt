@@ -17,10 +17,13 @@ pub enum Put {
 
 /// A sink of bytes. It may tell the bytes that it holds, and counts its faults.
 pub trait Sink {
+    // The bytes that it holds, where they are told.
     ghost held: { Self → Option (List ℕ) };
 
+    // How many writes failed.
     ghost faults: { Self → ℕ };
 
+    // Whether its writes can answer that there is no memory.
     ghost takes_memory: { Bool } = { true };
 
     /// Takes some bytes from the front of `piece`, which isn't empty.

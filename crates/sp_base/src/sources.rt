@@ -16,8 +16,10 @@ pub enum Got {
 
 /// A source of bytes. It may tell the bytes that are left, and counts its faults.
 pub trait Source {
+    // The bytes that are left, where they are told.
     ghost left: { Self → Option (List ℕ) };
 
+    // How many reads failed.
     ghost faults: { Self → ℕ };
 
     /// Moves some bytes from the source to the front of `out`, which isn't empty. The rest of `out` may change too.

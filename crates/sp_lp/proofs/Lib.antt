@@ -1,7 +1,14 @@
+pub mod AddedLaws
 pub mod Complete
+pub mod DistinctLaws
 pub mod KindLaws
+pub mod Limits
 pub mod Lawful
 pub mod LineLaws
+pub mod Meaning
 pub mod NameLaws
+pub mod PlaceLaws
 pub mod ReadLaws
 pub mod Sound
+pub mod States
+pub mod WordLaws

@@ -1,11 +1,10 @@
 -- The reader's answer, and what a text means.
-use Rattle.std.proofs.Common.{◌≡◌, ℕ, Bool, true, false, ◌&&◌, not, cond, List, [], ◌∷◌, map, refl, ap, ◌∙◌, sym, subst, Option, None, Some}
-use Rattle.std.specs.Prelude.{if◌then◌else◌, option_and_then, IsTrue, Err}
+use Rattle.std.proofs.Common.{◌≡◌, ℕ, Bool, true, false, ◌&&◌, not, cond, List, [], ◌∷◌, length, map, refl, ap, ◌∙◌, sym, subst, Option, None, Some}
+use Rattle.std.specs.Prelude.{if◌then◌else◌, option_and_then, Err}
 use Rattle.std.specs.List.{list_all}
-use Rattle.std.proofs.Common.{length}
 use Rattle.std.proofs.lemmas.List.{length-replicate}
-use Rattle.sp_model.specs.Rules.{IsLawful}
 use Rattle.sp_model.specs.declared.parts.ModelParts.{ModelParts}
+use Rattle.sp_model.specs.Rules.{IsLawful}
 use Rattle.sp_lp.specs.declared.reader.Reader.{Reader}
 use Rattle.sp_lp.specs.declared.refusals.LpRefusal.{LpRefusal}
 use Rattle.sp_lp.specs.declared.refusals.LpRefusal.TheVariants.{Syntax, NoMemory}
@@ -14,9 +13,11 @@ use Rattle.sp_lp.specs.Lines.{lines, words, ends_in_blank}
 use Rattle.sp_lp.specs.Files.{File, spelled, variables}
 use Rattle.sp_lp.specs.Reads.{Reads, model_of}
 use Rattle.sp_lp.specs.Machine.{start, fits, line_from, read_line, read_lines, run, parts_of, GivesReader}
+use Rattle.sp_lp.proofs.States.{read_of}
 use Rattle.sp_lp.proofs.Lawful.{model-lawful}
 use Rattle.sp_lp.proofs.Sound.{Holds, IsRead, run-back}
-use Rattle.sp_lp.proofs.Complete.{read_of, run-file}
+use Rattle.sp_lp.proofs.Limits.{run-file}
+use Rattle.sp_lp.proofs.Meaning.{read-names, read-parts, small-from_read, readable-from_small, fits-from_small}
 
 -- no line ends in a blank
 abbrev trimmed : List (List ℕ) → Bool
@@ -43,9 +44,6 @@ unfolding read_lines run read_line
 raw-goes s [] t h e = e
 raw-goes s (l ∷ ls) t h e = raw-one (ends_in_blank l) (trimmed ls) (line_from fits s (words l)) (λ u. read_lines u ls) (λ u. run fits u (map words ls)) t (λ u. raw-goes u ls t) h e
 
-parts-same : (s : Reader) (f : File) → s.names ≡ variables f → s.maximize ≡ f.maximize → parts_of s ≡ model_of f
-parts-same s f names maximize = rw (names, maximize) refl
-
 holds : (o : Option Reader) (t : Reader) → o ≡ Some t → Holds o (λ u. u ≡ t)
 holds None t e = cc
 holds (Some u) t e = cc
@@ -55,21 +53,21 @@ pub read-means : (bytes : List ℕ) (t : Reader) → read_lines start (lines byt
 read-means bytes t e =
     let a = raw-back start (lines bytes) t e in
     let b = run-back (map words (lines bytes)) (λ u. u ≡ t) (holds (run fits start (map words (lines bytes))) t a.1) in
-    let same : b.0 ≡ t = b.2 in
-    let h = b.1 in
+    let f = b.0 in
+    let same : read_of f ≡ t = b.2 in
     record {
-      file = h.file;
-      is_small = h.is_small;
-      lines_are = h.lines_are;
+      file = f;
+      is_small = small-from_read (map words (lines bytes)) f b.1;
+      lines_are = b.1.lines_are;
       trimmed = a.0;
-      names_are = ap (λ (u : Reader). u.names) (sym same) ∙ h.names_are;
-      parts_are = ap parts_of (sym same) ∙ parts-same b.0 h.file h.names_are h.maximize_is;
+      names_are = ap (λ (u : Reader). u.names) (sym same) ∙ read-names f;
+      parts_are = ap parts_of (sym same) ∙ read-parts f;
     }
 
 -- what is meant is read
 pub meant-read : (bytes : List ℕ) (names : List Word) (parts : ModelParts) (h : Reads bytes names parts) → read_lines start (lines bytes) ≡ Some (read_of h.file)
 meant-read bytes names parts h =
-    raw-goes start (lines bytes) (read_of h.file) h.trimmed (ap (run fits start) h.lines_are ∙ run-file h.file h.is_small)
+    raw-goes start (lines bytes) (read_of h.file) h.trimmed (ap (run fits start) h.lines_are ∙ run-file h.file (readable-from_small h.file h.is_small) (fits-from_small h.file h.is_small))
 
 -- a text that isn't read means nothing
 pub unread-means : (bytes : List ℕ) (r : LpRefusal) → GivesReader (Err r) (read_lines start (lines bytes)) → r ≡ Syntax → (names : List Word) (parts : ModelParts) → Reads bytes names parts → ⊥
@@ -81,7 +79,11 @@ one-reading bytes names others parts more g h =
     let a = meant-read bytes names parts g in
     let b = meant-read bytes others more h in
     let same : read_of g.file ≡ read_of h.file = cc in
-    (g.names_are ∙ (ap (λ (u : Reader). u.names) same ∙ sym h.names_are), g.parts_are ∙ (ap parts_of same ∙ sym h.parts_are))
+    let first : names ≡ (read_of g.file).names = g.names_are ∙ sym (read-names g.file) in
+    let second : others ≡ (read_of h.file).names = h.names_are ∙ sym (read-names h.file) in
+    let one : parts ≡ parts_of (read_of g.file) = g.parts_are ∙ sym (read-parts g.file) in
+    let two : more ≡ parts_of (read_of h.file) = h.parts_are ∙ sym (read-parts h.file) in
+    (first ∙ (ap (λ (u : Reader). u.names) same ∙ sym second), one ∙ (ap parts_of same ∙ sym two))
 
 -- what is meant keeps the rules of a model
 pub reads-lawful : (bytes : List ℕ) (names : List Word) (parts : ModelParts) → Reads bytes names parts → IsLawful parts × (length names ≡ length parts.lower)

@@ -1,3 +1,5 @@
+pub mod Added
+pub mod Combined
 pub mod Files
 pub mod Kinds
 pub mod Lines

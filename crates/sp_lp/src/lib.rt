@@ -1,9 +1,11 @@
 //! The reader of small LP files: binaries, whole coefficients, rows with an upper side.
 #![tactic(auto)]
 
+mod adding;
 mod cutting;
 mod kinds;
 mod naming;
+mod places;
 mod reader;
 mod reading;
 mod refusals;

@@ -50,6 +50,8 @@ fn model_of(alloc: Global, reader: Reader) -> Result<NamedModel, AllocError>
     let Reader {
         maximize,
         names,
+        cost,
+        rows,
         ..
     } = reader;
     let count = names.len();
@@ -60,10 +62,10 @@ fn model_of(alloc: Global, reader: Reader) -> Result<NamedModel, AllocError>
         maximize,
         scale: 0,
         constant: 0,
-        cost: Items::new(alloc),
+        cost,
         lower: Items::from_vec(lower),
         upper: Items::from_vec(upper),
-        rows: Items::new(alloc),
+        rows,
         indicators: Items::new(alloc),
         sos: Items::new(alloc),
     };

@@ -1,17 +1,19 @@
 -- What the rules of a model give at a point of its root box.
-use Rattle.std.proofs.Common.{◌≡◌, ◌+◌, ◌^◌, ◌<◌, ◌≤◌, Bool, true, false, ◌&&◌, refl, List, length, get_or, ℤ, All, ◌∙◌, arith}
+use Rattle.std.proofs.Common.{◌≡◌, ℕ, ◌+◌, ◌^◌, ◌<◌, ◌≤◌, Bool, true, false, ◌&&◌, refl, List, length, get_or, ℤ, All, ◌∙◌, arith}
 use Rattle.std.specs.Int.RustNames.{unsigned_abs}
 use Rattle.sp_model.specs.declared.parts.Row.{Row}
 use Rattle.sp_model.specs.declared.parts.Indicator.{Indicator}
 use Rattle.sp_model.specs.declared.parts.Sos.{Sos}
 use Rattle.sp_model.specs.declared.parts.ModelParts.{ModelParts}
+use Rattle.sp_model.specs.declared.refusal.BuildRefusal.{BuildRefusal}
+use Rattle.sp_model.specs.declared.refusal.BuildRefusal.TheVariants.{Variables, Bound, Objective, Row as RefusedRow, Indicator as RefusedIndicator, Sos as RefusedSos, NoMemory}
 use Rattle.sp_model.specs.Boxes.{IsWithin}
 use Rattle.std.specs.List.{list_all}
 use Rattle.std.proofs.lemmas.List.Sums.{AllPass-from_list_all, list_all-from_AllPass}
 use Rattle.sp_model.specs.Lists.{constraints_hold}
 use Rattle.sp_model.specs.Models.{root_of, row_holds, indicator_holds, set_holds, Feasible}
 use Rattle.sp_model.specs.Sums.{Term, magnitude, AreTermsSafe}
-use Rattle.sp_model.specs.Rules.{AreTermsLawful, AreVariablesLawful, IsRowLawful, IsLawful}
+use Rattle.sp_model.specs.Rules.{AreTermsLawful, AreVariablesLawful, IsRangeLawful, IsRowLawful, IsIndicatorLawful, IsSetLawful, AreLawful, IsFirstBroken, IsLawful, IsFirstFault}
 use Rattle.sp_model.proofs.WithinLemmas.{length-ranges}
 use Rattle.sp_model.proofs.SumLemmas.{magnitude-le-width}
 
@@ -65,3 +67,18 @@ test_from_feasible m x h =
       list_all-from_AllPass (λ (i : Indicator). indicator_holds i x) m.indicators h.indicators,
       list_all-from_AllPass (λ (set : Sos). set_holds set x) m.sos h.sets,
     )
+
+unbroken : {X : Type 0} (limit : ℕ) (P : X → Type 0) (xs : List X) (k : ℕ) → AreLawful limit P xs → IsFirstBroken limit P xs k → ⊥
+unbroken limit P xs k l f = f.broken (omega (arith, l.few, f.here)) (λ d. l.each k d f.here)
+
+-- lawful parts have no fault but want of memory
+pub no_fault : (m : ModelParts) (e : BuildRefusal) → IsLawful m → IsFirstFault m e → e ≡ NoMemory
+no_fault m Variables l f = absurd (f l.variables)
+no_fault m (Bound j) l f =
+    let few : length (root_of m) ≤ 2000 = omega (arith, length-ranges m.lower m.upper l.variables.paired, l.variables.few) in
+    absurd (unbroken 2000 IsRangeLawful (root_of m) j record { few = few; each = l.bounds } f.1)
+no_fault m Objective l f = absurd (f.2 l.objective)
+no_fault m (RefusedRow r) l f = absurd (unbroken 10000 (IsRowLawful m) m.rows r l.rows f.1)
+no_fault m (RefusedIndicator k) l f = absurd (unbroken 1000 (IsIndicatorLawful m) m.indicators k l.indicators f.2)
+no_fault m (RefusedSos k) l f = absurd (unbroken 1000 (IsSetLawful m) m.sos k l.sets f.3)
+no_fault m NoMemory l f = refl

@@ -27,18 +27,24 @@ pub fn points_are_counted()
 
 /// A split gives the points with the variable's value up to `at`, and those above it.
 pub fn split_is_by_value()
-    ensures lower { (b : Bounds) (v : ℕ) (at : ℤ) (x : List ℤ) → CanSplit b v at → IsWithin (below b v at) x ↔ (IsWithin b x × (entry x v ≤ℤ at)) }
-    ensures upper { (b : Bounds) (v : ℕ) (at : ℤ) (x : List ℤ) → CanSplit b v at → IsWithin (above b v at) x ↔ (IsWithin b x × (at <ℤ entry x v)) }
+    ensures lower { (b : Bounds) (v : ℕ) (at : ℤ) (x : List ℤ) → CanSplit b v at
+        → IsWithin (below b v at) x ↔ (IsWithin b x × (entry x v ≤ℤ at)) }
+    ensures upper { (b : Bounds) (v : ℕ) (at : ℤ) (x : List ℤ) → CanSplit b v at
+        → IsWithin (above b v at) x ↔ (IsWithin b x × (at <ℤ entry x v)) }
 {}
 
-/// Each point of a box lies in exactly one part of a split.
+/// Each point of a box lies in exactly one part of a split, and no other point in either.
 pub fn split_divides_points()
-    ensures covers { (b : Bounds) (v : ℕ) (at : ℤ) (x : List ℤ) → CanSplit b v at → IsWithin b x ↔ (IsWithin (below b v at) x ⊎ IsWithin (above b v at) x) }
-    ensures apart { (b : Bounds) (v : ℕ) (at : ℤ) (x : List ℤ) → CanSplit b v at → ¬ (IsWithin (below b v at) x × IsWithin (above b v at) x) }
+    ensures covers { (b : Bounds) (v : ℕ) (at : ℤ) (x : List ℤ) → CanSplit b v at
+        → IsWithin b x ↔ (IsWithin (below b v at) x ⊎ IsWithin (above b v at) x) }
+    ensures apart { (b : Bounds) (v : ℕ) (at : ℤ) (x : List ℤ) → CanSplit b v at
+        → ¬ (IsWithin (below b v at) x × IsWithin (above b v at) x) }
 {}
 
 /// A box has as many points as the two parts of a split together, and both have points where the box has any.
 pub fn split_divides_count()
-    ensures sum { (b : Bounds) (v : ℕ) (at : ℤ) → CanSplit b v at → point_count b ≡ point_count (below b v at) + point_count (above b v at) }
-    ensures parts { (b : Bounds) (v : ℕ) (at : ℤ) → CanSplit b v at → 0 < point_count b → (0 < point_count (below b v at)) × (0 < point_count (above b v at)) }
+    ensures sum { (b : Bounds) (v : ℕ) (at : ℤ) → CanSplit b v at
+        → point_count b ≡ point_count (below b v at) + point_count (above b v at) }
+    ensures parts { (b : Bounds) (v : ℕ) (at : ℤ) → CanSplit b v at → 0 < point_count b
+        → (0 < point_count (below b v at)) × (0 < point_count (above b v at)) }
 {}

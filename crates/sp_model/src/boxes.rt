@@ -1,4 +1,4 @@
-ghost use Rattle.std.specs.Prelude.{◌≡◌, ◌+◌, ◌*◌, ◌^◌, ◌<◌, ◌≤◌, ◌↔◌, length, slice_set, IfOk, IsTrue, SomeIff, ◌<ℤ◌, ◌≤ℤ◌};
+ghost use Rattle.std.specs.Prelude.{◌≡◌, ◌^◌, ◌<◌, ◌≤◌, ◌↔◌, length, slice_set, IfOk, IsTrue, SomeIff, ◌<ℤ◌, ◌≤ℤ◌};
 ghost use Rattle.sp_model.specs.Boxes.{ranges, range_at, width_of, point_count, below, above, CanSplit};
 
 use crate::ids::VarId;
@@ -87,7 +87,8 @@ impl BoxOf {
     /// The part with the variable's values up to `at`, and the part with those above it.
     pub fn split(&self, alloc: Global, var: VarId, at: i64) -> Result<(BoxOf, BoxOf), NoMemory>
         requires { CanSplit self.now var at }
-        ensures { IfOk result (λ parts. (parts.0 ≡ below self.now var at) × (parts.1 ≡ above self.now var at)) }
+        ensures lower { IfOk result (λ parts. parts.0 ≡ below self.now var at) }
+        ensures upper { IfOk result (λ parts. parts.1 ≡ above self.now var at) }
     {
         let lower_part = self.up_to(alloc, var, &at)?;
         let upper_part = self.from_after(alloc, var, &at)?;
@@ -111,6 +112,7 @@ impl BoxOf {
         ensures { IfOk result (λ part. part ≡ above self.now var at.now) }
     {
         let place = var.index();
+        // It is a number of 64 bits, so one more than `at` is one too.
         let _greatest = self.upper.as_slice()[place];
         let next = *at + 1;
         let lower = copy_with(alloc, self.lower.as_slice(), place, &next)?;
@@ -178,7 +180,7 @@ fn are_all_filled(lower: &[i64], upper: &[i64]) -> bool
 fn product_of_widths(lower: &[i64], upper: &[i64]) -> Option<u128>
     requires paired { length upper.now ≡ length lower.now }
     requires filled { 0 < point_count (ranges lower.now upper.now) }
-    ensures { SomeIff result (point_count (ranges lower.now upper.now) < 2 ^ 128) (point_count (ranges lower.now upper.now)) }
+    ensures { let count = point_count (ranges lower.now upper.now) in SomeIff result (count < 2 ^ 128) count }
 {
     let mut count: u128 = 1;
     for place in 0..lower.len() {

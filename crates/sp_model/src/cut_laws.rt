@@ -6,7 +6,8 @@ ghost use Rattle.sp_model.specs.Cuts.{cut_of, ceiling, IsWithinGaps};
 
 /// The cut is the greatest whole number within the gaps.
 pub fn cut_is_greatest()
-    ensures { (best : ℤ) (gaps : Gaps) (scale : ℕ) (z : ℤ) → (z ≤ℤ cut_of best gaps scale) ↔ IsWithinGaps best gaps scale z }
+    ensures { (best : ℤ) (gaps : Gaps) (scale : ℕ) (z : ℤ)
+        → (z ≤ℤ cut_of best gaps scale) ↔ IsWithinGaps best gaps scale z }
 {}
 
 /// The cut isn't below the optimum, nor above the ceiling.

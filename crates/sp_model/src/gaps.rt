@@ -1,4 +1,4 @@
-ghost use Rattle.std.specs.Prelude.{◌≡◌, ◌*◌, ◌/◌, ◌^◌, ◌<◌, ◌≤◌, ◌↔◌, ℤ, ℕ, min, pos, ◌≤ℤ◌, unsigned_abs, IsTrue};
+ghost use Rattle.std.specs.Prelude.{◌≡◌, ◌*◌, ◌/◌, ◌^◌, ◌<◌, ◌≤◌, ◌↔◌, ℤ, ℕ, min, ◌≤ℤ◌, unsigned_abs, IsTrue};
 ghost use Rattle.sp_model.specs.Cuts.{least_of, ceiling, part, cut_of, IsGap};
 
 /// How far from the optimum a listed point may lie.

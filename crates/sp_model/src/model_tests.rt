@@ -11,27 +11,158 @@ const WIDEST: i128 = 1_000_000_000_000_000_000_000_000_000_000_000_000;
 
 const FARTHEST: i64 = 1_000_000_000_000_000;
 
-/// The parts of a model in few words. Its row, its indicator and its set stand there as often as is said.
-#[derive(Clone, Copy, Debug)]
-struct Draft {
-    lower: &'static [i64],
-    upper: &'static [i64],
-    fixed: u32,
-    cost: &'static [(u32, i128)],
-    constant: i128,
-    scale: u8,
-    row: &'static [(u32, i128)],
-    lo: Option<i128>,
-    hi: Option<i128>,
-    rows: u32,
+fn numbers(alloc: Global, given: &[i64]) -> Result<Items<i64>, AllocError> {
+    Ok(Items::from_vec(Vec::from_slice(alloc, given)?))
+}
+
+fn zeros(alloc: Global, count: u32) -> Result<Items<i64>, AllocError> {
+    let mut items = Vec::new(alloc);
+    for _ in 0..count {
+        items.push(0)?;
+    }
+    Ok(Items::from_vec(items))
+}
+
+fn terms(alloc: Global, given: &[(u32, i128)]) -> Result<Items<(VarId, i128)>, AllocError> {
+    let mut items = Vec::new(alloc);
+    for term in given {
+        items.push((VarId::new(term.0), term.1))?;
+    }
+    Ok(Items::from_vec(items))
+}
+
+fn rows(alloc: Global, given: &[(u32, i128)], count: u32) -> Result<Items<Row>, AllocError> {
+    let mut items = Vec::new(alloc);
+    for _ in 0..count {
+        let terms = terms(alloc, given)?;
+        items.push(Row {
+            terms,
+            lo: Some(-1),
+            hi: Some(4),
+        })?;
+    }
+    Ok(Items::from_vec(items))
+}
+
+fn indicators(
+    alloc: Global,
     switch: u32,
     on: bool,
-    guarded: &'static [(u32, i128)],
-    guard: Option<i128>,
-    indicators: u32,
-    kind: SosKind,
-    members: &'static [u32],
-    sets: u32,
+    given: &[(u32, i128)],
+    count: u32,
+) -> Result<Items<Indicator>, AllocError> {
+    let mut items = Vec::new(alloc);
+    for _ in 0..count {
+        let terms = terms(alloc, given)?;
+        let row = Row {
+            terms,
+            lo: None,
+            hi: Some(2),
+        };
+        items.push(Indicator {
+            var: VarId::new(switch),
+            on,
+            row,
+        })?;
+    }
+    Ok(Items::from_vec(items))
+}
+
+fn members(alloc: Global, given: &[u32]) -> Result<Items<VarId>, AllocError> {
+    let mut items = Vec::new(alloc);
+    for member in given {
+        items.push(VarId::new(*member))?;
+    }
+    Ok(Items::from_vec(items))
+}
+
+fn sets(alloc: Global, kind: SosKind, given: &[u32], count: u32) -> Result<Items<Sos>, AllocError> {
+    let mut items = Vec::new(alloc);
+    for _ in 0..count {
+        let vars = members(alloc, given)?;
+        items.push(Sos { kind, vars })?;
+    }
+    Ok(Items::from_vec(items))
+}
+
+/// Three variables within 0 to 1, 0 to 5 and -2 to 2; 7 + 3a - b + 10c; -1 <= b + c <= 4; b - c <= 2 where a is as
+/// said; and a set of all three.
+fn plain(alloc: Global, kind: SosKind, on: bool) -> Result<ModelParts, AllocError> {
+    let cost = terms(alloc, &[(0, 3), (1, -1), (2, 10)])?;
+    let lower = numbers(alloc, &[0, 0, -2])?;
+    let upper = numbers(alloc, &[1, 5, 2])?;
+    let rows = rows(alloc, &[(1, 1), (2, 1)], 1)?;
+    let indicators = indicators(alloc, 0, on, &[(1, 1), (2, -1)], 1)?;
+    let sos = sets(alloc, kind, &[0, 1, 2], 1)?;
+    Ok(ModelParts {
+        maximize: false,
+        scale: 30,
+        constant: 7,
+        cost,
+        lower,
+        upper,
+        rows,
+        indicators,
+        sos,
+    })
+}
+
+fn empty(alloc: Global) -> Result<ModelParts, AllocError> {
+    let rows = rows(alloc, &[], 1)?;
+    let sos = sets(alloc, SosKind::One, &[], 1)?;
+    Ok(ModelParts {
+        maximize: false,
+        scale: 0,
+        constant: -5,
+        cost: Items::new(alloc),
+        lower: Items::new(alloc),
+        upper: Items::new(alloc),
+        rows,
+        indicators: Items::new(alloc),
+        sos,
+    })
+}
+
+/// What stands in place of a part of the plain model.
+#[derive(Clone, Copy)]
+enum Change {
+    Fixed(u32),
+    Lower(&'static [i64]),
+    Upper(&'static [i64]),
+    Scale(u8),
+    Constant(i128),
+    Cost(&'static [(u32, i128)]),
+    Row(&'static [(u32, i128)], u32),
+    Indicator(u32, &'static [(u32, i128)], u32),
+    Set(&'static [u32], u32),
+}
+
+fn put(alloc: Global, parts: &mut ModelParts, change: Change) -> Result<(), AllocError> {
+    match change {
+        Change::Fixed(count) => {
+            parts.lower = zeros(alloc, count)?;
+            parts.upper = zeros(alloc, count)?;
+        }
+        Change::Lower(given) => parts.lower = numbers(alloc, given)?,
+        Change::Upper(given) => parts.upper = numbers(alloc, given)?,
+        Change::Scale(scale) => parts.scale = scale,
+        Change::Constant(constant) => parts.constant = constant,
+        Change::Cost(given) => parts.cost = terms(alloc, given)?,
+        Change::Row(given, count) => parts.rows = rows(alloc, given, count)?,
+        Change::Indicator(var, given, count) => {
+            parts.indicators = indicators(alloc, var, true, given, count)?;
+        }
+        Change::Set(given, count) => parts.sos = sets(alloc, SosKind::Two, given, count)?,
+    }
+    Ok(())
+}
+
+fn refusal_of(alloc: Global, changes: &[Change]) -> Result<Option<BuildRefusal>, AllocError> {
+    let mut parts = plain(alloc, SosKind::Two, true)?;
+    for change in changes {
+        put(alloc, &mut parts, *change)?;
+    }
+    Ok(Model::build(alloc, parts).err())
 }
 
 /// What is refused, without its place.
@@ -46,117 +177,6 @@ enum Refused {
     Sos,
 }
 
-const PLAIN: Draft = Draft {
-    lower: &[0, 0, -2],
-    upper: &[1, 5, 2],
-    fixed: 0,
-    cost: &[(0, 3), (1, -1), (2, 10)],
-    constant: 7,
-    scale: 30,
-    row: &[(1, 1), (2, 1)],
-    lo: Some(-1),
-    hi: Some(4),
-    rows: 1,
-    switch: 0,
-    on: true,
-    guarded: &[(1, 1), (2, -1)],
-    guard: Some(2),
-    indicators: 1,
-    kind: SosKind::Two,
-    members: &[0, 1, 2],
-    sets: 1,
-};
-
-const EMPTY: Draft = Draft {
-    lower: &[],
-    upper: &[],
-    cost: &[],
-    constant: -5,
-    row: &[],
-    indicators: 0,
-    members: &[],
-    ..PLAIN
-};
-
-fn numbers(alloc: Global, given: &[i64], fixed: u32) -> Result<Items<i64>, AllocError> {
-    let mut items = Vec::from_slice(alloc, given)?;
-    for _ in 0..fixed {
-        items.push(0)?;
-    }
-    Ok(Items::from_vec(items))
-}
-
-fn terms(alloc: Global, given: &[(u32, i128)]) -> Result<Items<(VarId, i128)>, AllocError> {
-    let mut items = Vec::new(alloc);
-    for term in given {
-        items.push((VarId::new(term.0), term.1))?;
-    }
-    Ok(Items::from_vec(items))
-}
-
-fn set_of(alloc: Global, draft: &Draft) -> Result<Sos, AllocError> {
-    let mut vars = Vec::new(alloc);
-    for member in draft.members {
-        vars.push(VarId::new(*member))?;
-    }
-    Ok(Sos {
-        kind: draft.kind,
-        vars: Items::from_vec(vars),
-    })
-}
-
-fn row_of(alloc: Global, draft: &Draft) -> Result<Row, AllocError> {
-    Ok(Row {
-        terms: terms(alloc, draft.row)?,
-        lo: draft.lo,
-        hi: draft.hi,
-    })
-}
-
-fn indicator_of(alloc: Global, draft: &Draft) -> Result<Indicator, AllocError> {
-    let row = Row {
-        terms: terms(alloc, draft.guarded)?,
-        lo: None,
-        hi: draft.guard,
-    };
-    Ok(Indicator {
-        var: VarId::new(draft.switch),
-        on: draft.on,
-        row,
-    })
-}
-
-fn parts_of(alloc: Global, draft: &Draft) -> Result<ModelParts, AllocError> {
-    let mut rows = Items::new(alloc);
-    for _ in 0..draft.rows {
-        rows.push(row_of(alloc, draft)?)?;
-    }
-    let mut indicators = Items::new(alloc);
-    for _ in 0..draft.indicators {
-        indicators.push(indicator_of(alloc, draft)?)?;
-    }
-    let mut sos = Items::new(alloc);
-    for _ in 0..draft.sets {
-        sos.push(set_of(alloc, draft)?)?;
-    }
-    Ok(ModelParts {
-        maximize: false,
-        scale: draft.scale,
-        constant: draft.constant,
-        cost: terms(alloc, draft.cost)?,
-        lower: numbers(alloc, draft.lower, draft.fixed)?,
-        upper: numbers(alloc, draft.upper, draft.fixed)?,
-        rows,
-        indicators,
-        sos,
-    })
-}
-
-fn refusal_of(alloc: Global, draft: &Draft) -> Result<Option<BuildRefusal>, AllocError> {
-    let parts = parts_of(alloc, draft)?;
-    Ok(Model::build(alloc, parts).err())
-}
-
 fn wanted(refused: Refused, at: u32) -> Option<BuildRefusal> {
     match refused {
         Refused::Nothing => None,
@@ -169,292 +189,164 @@ fn wanted(refused: Refused, at: u32) -> Option<BuildRefusal> {
     }
 }
 
-/// Parts that break a rule, and parts that just keep it, with what is refused.
-static CASES: [(Draft, Refused, u32); 36] = [
-    (PLAIN, Refused::Nothing, 0),
-    (EMPTY, Refused::Nothing, 0),
+type Case = (&'static [Change], Refused, u32);
+
+/// The first case that has another answer.
+fn first_wrong(alloc: Global, cases: &[Case]) -> Result<Option<usize>, AllocError> {
+    for (k, (changes, refused, at)) in cases.iter().enumerate() {
+        if refusal_of(alloc, changes)? != wanted(*refused, *at) {
+            return Ok(Some(k));
+        }
+    }
+    Ok(None)
+}
+
+static CASES: [Case; 36] = [
+    (&[], Refused::Nothing, 0),
+    (&[Change::Fixed(2_000)], Refused::Nothing, 0),
     (
-        Draft {
-            fixed: 1_997,
-            ..PLAIN
-        },
+        &[Change::Fixed(2_001), Change::Scale(31)],
+        Refused::Variables,
+        0,
+    ),
+    (&[Change::Upper(&[1, 5])], Refused::Variables, 0),
+    (
+        &[Change::Lower(&[0, FARTHEST + 1, 0, 0])],
+        Refused::Variables,
+        0,
+    ),
+    (
+        &[
+            Change::Lower(&[0, -FARTHEST, 0]),
+            Change::Upper(&[1, FARTHEST, 0]),
+        ],
         Refused::Nothing,
         0,
     ),
     (
-        Draft {
-            fixed: 1_998,
-            ..PLAIN
-        },
-        Refused::Variables,
-        0,
-    ),
-    (
-        Draft {
-            upper: &[1, 5],
-            ..PLAIN
-        },
-        Refused::Variables,
-        0,
-    ),
-    (
-        Draft {
-            upper: &[1, 5, 2, 2],
-            lower: &[0, FARTHEST + 1, 0],
-            ..PLAIN
-        },
-        Refused::Variables,
-        0,
-    ),
-    (
-        Draft {
-            lower: &[0, -FARTHEST, 0],
-            upper: &[1, FARTHEST, 0],
-            ..PLAIN
-        },
-        Refused::Nothing,
-        0,
-    ),
-    (
-        Draft {
-            lower: &[0, 0, -FARTHEST - 1],
-            scale: 31,
-            ..PLAIN
-        },
+        &[Change::Lower(&[0, 0, -FARTHEST - 1]), Change::Scale(31)],
         Refused::Bound,
         2,
     ),
     (
-        Draft {
-            lower: &[0, 0, -FARTHEST - 1],
-            upper: &[1, FARTHEST + 1, 2],
-            ..PLAIN
-        },
+        &[
+            Change::Lower(&[0, 0, FARTHEST + 1]),
+            Change::Upper(&[1, FARTHEST + 1, 2]),
+        ],
         Refused::Bound,
         1,
     ),
-    (Draft { scale: 31, ..PLAIN }, Refused::Objective, 0),
     (
-        Draft {
-            cost: &[(0, 3), (3, 1)],
-            ..PLAIN
-        },
+        &[Change::Scale(31), Change::Row(&[(9, 1)], 1)],
         Refused::Objective,
         0,
     ),
+    (&[Change::Cost(&[(0, 3), (3, 1)])], Refused::Objective, 0),
+    (&[Change::Cost(&[(1, 3), (1, 1)])], Refused::Objective, 0),
+    (&[Change::Cost(&[(1, 3), (0, 1)])], Refused::Objective, 0),
+    (&[Change::Cost(&[(0, 3), (1, 0)])], Refused::Objective, 0),
     (
-        Draft {
-            cost: &[(1, 3), (1, 1)],
-            ..PLAIN
-        },
-        Refused::Objective,
-        0,
-    ),
-    (
-        Draft {
-            cost: &[(1, 3), (0, 1)],
-            ..PLAIN
-        },
-        Refused::Objective,
-        0,
-    ),
-    (
-        Draft {
-            cost: &[(0, 3), (1, 0)],
-            ..PLAIN
-        },
-        Refused::Objective,
-        0,
-    ),
-    (
-        Draft {
-            cost: &[(0, WIDEST - 7), (2, 1)],
-            row: &[(9, 1)],
-            ..PLAIN
-        },
-        Refused::Objective,
-        0,
-    ),
-    (
-        Draft {
-            cost: &[(0, WIDEST - 9), (2, 1)],
-            ..PLAIN
-        },
+        &[Change::Cost(&[(0, WIDEST - 9), (2, 1)])],
         Refused::Nothing,
         0,
     ),
     (
-        Draft {
-            cost: &[(0, WIDEST - 8), (2, 1)],
-            ..PLAIN
-        },
+        &[Change::Cost(&[(0, WIDEST - 8), (2, 1)])],
         Refused::Objective,
         0,
     ),
+    (&[Change::Cost(&[(2, WIDEST)])], Refused::Objective, 0),
     (
-        Draft {
-            cost: &[],
-            constant: -WIDEST,
-            ..PLAIN
-        },
+        &[Change::Cost(&[]), Change::Constant(-WIDEST)],
         Refused::Nothing,
         0,
     ),
     (
-        Draft {
-            cost: &[],
-            constant: -WIDEST - 1,
-            ..PLAIN
-        },
+        &[Change::Cost(&[]), Change::Constant(-WIDEST - 1)],
         Refused::Objective,
         0,
     ),
+    (&[Change::Row(&[(0, 1), (3, 1)], 1)], Refused::Row, 0),
     (
-        Draft {
-            row: &[(0, 1), (3, 1)],
-            ..PLAIN
-        },
+        &[
+            Change::Row(&[(2, 1), (1, 1)], 1),
+            Change::Indicator(9, &[], 1),
+        ],
         Refused::Row,
         0,
     ),
+    (&[Change::Row(&[(2, 0)], 1)], Refused::Row, 0),
+    (&[Change::Row(&[(0, WIDEST - 5)], 1)], Refused::Nothing, 0),
+    (&[Change::Row(&[(0, 4 - WIDEST)], 1)], Refused::Row, 0),
     (
-        Draft {
-            row: &[(2, 1), (1, 1)],
-            switch: 9,
-            ..PLAIN
-        },
-        Refused::Row,
-        0,
-    ),
-    (
-        Draft {
-            row: &[(2, 0)],
-            ..PLAIN
-        },
-        Refused::Row,
-        0,
-    ),
-    (
-        Draft {
-            row: &[(0, WIDEST - 5)],
-            ..PLAIN
-        },
+        &[Change::Row(&[(1, (WIDEST - 5) / 5)], 1)],
         Refused::Nothing,
         0,
     ),
+    (&[Change::Row(&[(0, i128::MIN)], 1)], Refused::Row, 0),
+    (&[Change::Row(&[(1, 1)], 10_000)], Refused::Nothing, 0),
     (
-        Draft {
-            row: &[(0, 5 - WIDEST - 1)],
-            ..PLAIN
-        },
-        Refused::Row,
-        0,
-    ),
-    (
-        Draft {
-            row: &[(2, WIDEST / 2)],
-            lo: None,
-            hi: None,
-            ..PLAIN
-        },
-        Refused::Nothing,
-        0,
-    ),
-    (
-        Draft {
-            row: &[(2, WIDEST / 2 + 1)],
-            lo: None,
-            hi: None,
-            ..PLAIN
-        },
-        Refused::Row,
-        0,
-    ),
-    (
-        Draft {
-            row: &[(0, i128::MIN)],
-            ..PLAIN
-        },
-        Refused::Row,
-        0,
-    ),
-    (
-        Draft {
-            rows: 10_000,
-            ..PLAIN
-        },
-        Refused::Nothing,
-        0,
-    ),
-    (
-        Draft {
-            rows: 10_001,
-            switch: 9,
-            ..PLAIN
-        },
+        &[Change::Row(&[(1, 1)], 10_001), Change::Indicator(9, &[], 1)],
         Refused::Row,
         10_000,
     ),
-    (Draft { switch: 3, ..PLAIN }, Refused::Indicator, 0),
-    (Draft { switch: 1, ..PLAIN }, Refused::Indicator, 0),
+    (&[Change::Indicator(3, &[], 1)], Refused::Indicator, 0),
+    (&[Change::Indicator(1, &[], 1)], Refused::Indicator, 0),
     (
-        Draft {
-            guarded: &[(0, WIDEST - 2)],
-            ..PLAIN
-        },
+        &[Change::Indicator(0, &[(0, WIDEST - 2)], 1)],
         Refused::Nothing,
         0,
     ),
     (
-        Draft {
-            guarded: &[(0, WIDEST - 1)],
-            members: &[0, 0],
-            ..PLAIN
-        },
+        &[
+            Change::Indicator(0, &[(0, WIDEST - 1)], 1),
+            Change::Set(&[3], 1),
+        ],
         Refused::Indicator,
         0,
     ),
+    (&[Change::Indicator(0, &[], 1_000)], Refused::Nothing, 0),
     (
-        Draft {
-            indicators: 1_001,
-            ..PLAIN
-        },
+        &[Change::Indicator(0, &[], 1_001)],
         Refused::Indicator,
         1_000,
     ),
-    (
-        Draft {
-            members: &[0, 2, 0],
-            ..PLAIN
-        },
-        Refused::Sos,
-        0,
-    ),
-    (
-        Draft {
-            sets: 1_001,
-            ..PLAIN
-        },
-        Refused::Sos,
-        1_000,
-    ),
+    (&[Change::Set(&[0, 3], 1)], Refused::Sos, 0),
+    (&[Change::Set(&[0, 2, 0], 1)], Refused::Sos, 0),
+    (&[Change::Set(&[2, 0], 1_001)], Refused::Sos, 1_000),
 ];
 
-#[test]
-fn refuses_the_first_broken_rule(rt: HostRuntime) -> Result<(), Fail> {
-    for (draft, refused, at) in &CASES {
-        assert_eq!(rt;
-            refusal_of(rt.alloc(), draft)?,
-            wanted(*refused, *at),
-            "{draft:?}"
-        );
-    }
-    Ok(())
+fn cases() -> &'static [Case] {
+    &CASES
 }
 
 #[test]
-fn tells_feasible_points_and_values(rt: HostRuntime) -> Result<(), Fail> {
-    let cases: [(SosKind, bool, [i64; 3], bool, i128); 13] = [
+fn refuses_the_first_broken_rule(rt: HostRuntime) -> Result<(), Fail> {
+    let wrong = first_wrong(rt.alloc(), cases())?;
+    assert_eq!(rt; wrong, None);
+    Ok(())
+}
+
+type Tried = (SosKind, bool, [i64; 3], bool, i128);
+
+/// Whether the point is feasible, and its value, where it lies within the bounds.
+fn judged(model: &Model, point: &Point) -> Option<(bool, i128)> {
+    if !model.is_within(point) {
+        return None;
+    }
+    Some((model.feasible(point), model.value(point)))
+}
+
+fn is_as_told(alloc: Global, tried: &Tried) -> Result<bool, Fail> {
+    let (kind, on, values, feasible, value) = tried;
+    let parts = plain(alloc, *kind, *on)?;
+    let model = Model::build(alloc, parts)?;
+    let point = Point::from_vec(Vec::from_slice(alloc, values)?);
+    Ok(judged(&model, &point) == Some((*feasible, *value)))
+}
+
+fn tried_points() -> &'static [Tried] {
+    &[
         (SosKind::Two, true, [0, 0, 0], true, 7),
         (SosKind::Two, true, [1, 2, 0], true, 8),
         (SosKind::Two, true, [1, 3, 0], false, 7),
@@ -468,38 +360,44 @@ fn tells_feasible_points_and_values(rt: HostRuntime) -> Result<(), Fail> {
         (SosKind::One, true, [0, 3, 1], false, 14),
         (SosKind::One, true, [0, 0, -1], true, -3),
         (SosKind::Two, true, [0, 0, -2], false, -13),
-    ];
-    for (kind, on, values, feasible, value) in &cases {
-        let draft = Draft {
-            kind: *kind,
-            on: *on,
-            ..PLAIN
-        };
-        let model = Model::build(rt.alloc(), parts_of(rt.alloc(), &draft)?)?;
-        let point = Point::from_vec(Vec::from_slice(rt.alloc(), values)?);
-        assert!(rt; model.is_within(&point));
-        assert_eq!(rt; model.feasible(&point), *feasible, "{values:?}");
-        assert_eq!(rt; model.value(&point), *value, "{values:?}");
+    ]
+}
+
+#[test]
+fn tells_feasible_points_and_values(rt: HostRuntime) -> Result<(), Fail> {
+    for tried in tried_points() {
+        assert!(rt; is_as_told(rt.alloc(), tried)?);
     }
     Ok(())
 }
 
+fn bounds_of(model: &Model, at: u32) -> Option<(i64, i64)> {
+    if model.parts().lower.len() <= at as usize {
+        return None;
+    }
+    Some(model.bounds(VarId::new(at)))
+}
+
+fn has_root(alloc: Global, model: &Model, least: &[i64], greatest: &[i64]) -> Result<bool, Fail> {
+    let root = model.root(alloc)?;
+    Ok(root.lower.as_slice() == least && root.upper.as_slice() == greatest)
+}
+
 #[test]
-fn shows_parts_bounds_and_root(rt: HostRuntime) -> Result<(), Fail> {
-    let model = Model::build(rt.alloc(), parts_of(rt.alloc(), &PLAIN)?)?;
-    assert_eq!(rt; model.parts().scale, 30);
-    assert_eq!(rt; model.parts().lower.len(), 3);
-    assert_eq!(rt; model.bounds(VarId::new(2)), (-2, 2));
-    let root = model.root(rt.alloc())?;
-    assert_eq!(rt; root.lower.as_slice(), PLAIN.lower);
-    assert_eq!(rt; root.upper.as_slice(), PLAIN.upper);
-    let far = Point::from_vec(Vec::from_slice(rt.alloc(), &[0, 6, 0])?);
-    assert!(rt; !model.is_within(&far));
-    let empty = Model::build(rt.alloc(), parts_of(rt.alloc(), &EMPTY)?)?;
-    let nowhere = Point::new(rt.alloc());
-    assert!(rt; !model.is_within(&nowhere));
-    assert!(rt; empty.is_within(&nowhere));
-    assert!(rt; empty.feasible(&nowhere));
-    assert_eq!(rt; empty.value(&nowhere), -5);
+fn shows_bounds_and_root(rt: HostRuntime) -> Result<(), Fail> {
+    let parts = plain(rt.alloc(), SosKind::One, true)?;
+    let model = Model::build(rt.alloc(), parts)?;
+    assert_eq!(rt; bounds_of(&model, 2), Some((-2, 2)));
+    assert_eq!(rt; bounds_of(&model, 3), None);
+    assert!(rt; has_root(rt.alloc(), &model, &[0, 0, -2], &[1, 5, 2])?);
+    Ok(())
+}
+
+#[test]
+fn takes_no_variables_at_all(rt: HostRuntime) -> Result<(), Fail> {
+    let parts = empty(rt.alloc())?;
+    let model = Model::build(rt.alloc(), parts)?;
+    let point = Point::new(rt.alloc());
+    assert_eq!(rt; judged(&model, &point), Some((true, -5)));
     Ok(())
 }

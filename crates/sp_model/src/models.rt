@@ -1,4 +1,4 @@
-ghost use Rattle.std.specs.Prelude.{◌≡◌, ◌↔◌, ◌^◌, ◌<◌, ◌≤◌, length, unsigned_abs, IsTrue, IfOk, IfErr};
+ghost use Rattle.std.specs.Prelude.{◌≡◌, ◌↔◌, ◌^◌, ◌<◌, ◌≤◌, length, unsigned_abs, IsTrue, IfOk, IfErr, IsOkUnless};
 ghost use Rattle.sp_model.specs.Boxes.{IsWithin, range_at};
 ghost use Rattle.sp_model.specs.Lists.{constraints_hold};
 ghost use Rattle.sp_model.specs.Models.{Feasible, objective, root_of};
@@ -39,6 +39,7 @@ impl Model {
     pub fn build(alloc: Global, parts: ModelParts) -> Result<Model, BuildRefusal>
         ensures ok { IfOk result (λ m. (m ≡ parts) × IsLawful parts) }
         ensures refused { IfErr result (IsFirstFault parts) }
+        ensures accepted { IsLawful parts → IsOkUnless result BuildRefusal.NoMemory }
     {
         match check(alloc, &parts) {
             Err(refusal) => Err(refusal),

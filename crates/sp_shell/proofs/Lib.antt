@@ -1,3 +1,5 @@
 mod OutputLemmas
+mod ReadyLemmas
+mod RunLemmas
 mod SolveLemmas
 mod StepLemmas

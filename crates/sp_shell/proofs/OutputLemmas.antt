@@ -1,11 +1,12 @@
 -- How printed pieces add up.
-use Rattle.std.specs.Prelude.{ℤ, pos, flat_map}
+use Rattle.std.specs.Prelude.{ℤ, pos, flat_map, Result, Ok, Err, OnOk, OnErr}
 use Rattle.std.proofs.Common.{◌≡◌, ℕ, suc, ◌+◌, ◌<◌, List, [], ◌∷◌, ◌++◌, length, get_or, drop, Option, Bor, refl, sym, ap, ◌∙◌, add-one}
 use Rattle.std.proofs.Math.Seq.{drop-cons}
 use Rattle.std.proofs.lemmas.List.{append_assoc, append-nil}
 use Rattle.sp_base.specs.Told.{append, AppendsPart}
 use Rattle.sp_base.proofs.ToldLaws.{append-nothing, append-append, part_of_front, part_behind}
-use Rattle.sp_shell.specs.Outputs.{Printed, joined}
+use Rattle.sp_base.specs.declared.sinks.SinkEnd.{SinkEnd}
+use Rattle.sp_shell.specs.Outputs.{Printed, Sends, joined}
 use Rattle.sp_shell.specs.Replies.{named_value, named_values}
 
 -- the piece waits behind what waited, and nothing went out
@@ -106,3 +107,33 @@ pub ruleset then_rules = (then_printed, then_fails, first_fails)
 pub flat_map_drop : {X : Type 0} (f : X → List ℕ) (xs : List X) (i : ℕ) (x : X) → i < length xs → x ≡ get_or xs i x
     → flat_map f (drop i xs) ≡ f x ++ flat_map f (drop (i + 1) xs)
 flat_map_drop f xs i x h e = rw (add-one, drop-cons xs i x h) (ap (λ y. f y ++ flat_map f (drop (suc i) xs)) (sym e))
+
+-- the text was printed from an empty buffer, and then all of the buffer was sent
+pub all_sent : {old mid new : Option (List ℕ)} {before after text : List ℕ}
+    → Printed old mid before after text [] → before ≡ [] → new ≡ append mid after → new ≡ append old text
+all_sent {old} {mid} {new} {before} {after} {text} p none e =
+    e ∙ ap (λ told. append told after) p.told ∙ append-append old p.part after
+    ∙ ap (append old) (ap (λ xs. p.part ++ xs) (sym (append-nil after)) ∙ sym p.whole ∙ ap (λ xs. xs ++ text) none)
+
+-- the text was printed, and a part of the buffer was sent
+pub part_sent : {old mid new : Option (List ℕ)} {before after text : List ℕ}
+    → Printed old mid before after text [] → before ≡ [] → AppendsPart mid new after → AppendsPart old new text
+part_sent {old} {mid} {new} {before} {after} {text} p none q =
+    record {
+      part = p.part ++ q.part;
+      rest = q.rest;
+      whole = sym (ap (λ xs. xs ++ text) none) ∙ p.whole ∙ ap (λ xs. p.part ++ xs) (append-nil after ∙ q.whole) ∙ sym (append_assoc p.part q.part q.rest);
+      told = q.told ∙ ap (λ told. append told q.part) p.told ∙ append-append old p.part q.part;
+    }
+
+-- a part of the text was sent from an empty buffer
+pub part_printed : {old new : Option (List ℕ)} (before text : List ℕ) → AppendsPart old new (before ++ text) → before ≡ [] → AppendsPart old new text
+part_printed {old} {new} before text p none = record { part = p.part; rest = p.rest; whole = sym (ap (λ xs. xs ++ text) none) ∙ p.whole; told = p.told }
+
+pub ruleset send_rules = (all_sent, part_sent, part_printed)
+
+-- what was printed was sent from the buffer, or not
+pub printed_sent : (r : Result (Unit {0}) SinkEnd) {old mid : Option (List ℕ)} (new : Option (List ℕ)) {before after text : List ℕ}
+    → Printed old mid before after text [] → before ≡ [] → OnOk r (new ≡ append mid after) → OnErr r (AppendsPart mid new after) → Sends r old new text
+printed_sent (Ok done) new p none ok err = all_sent p none ok
+printed_sent (Err end) new p none ok err = part_sent p none err

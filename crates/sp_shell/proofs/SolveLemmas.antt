@@ -75,6 +75,7 @@ legal_none m ended nodes full limited within odd bounded = record {
 pub solved_none : (m : ModelParts) (s : Solved) → s.best ≡ None → s.listed.items ≡ [] → s.end ≡ end.Done → s.nodes ≡ room_of m → IsOptimum m None → IsSolved m s
 solved_none m s b l e n none = record {
   answer = subst (λ ended. EndsWith m ended s.best (points_of s.listed.items)) (sym e) (subst (λ best. HasList m best (points_of s.listed.items)) (sym b) empty);
+  small = subst (λ o. IfSome o (λ v. unsigned_abs v ≤ 10 ^ 36)) (sym b) tt;
   legal = subst (λ xs. IsLegal m (points_of xs) s.end s.nodes) (sym l) (legal_none m s.end s.nodes (λ h. absurd (ended h)) (λ h. absurd (ended h)) (λ h. absurd (ended h)) (odd_nodes _ s.nodes n) (omega (arith, n)));
 }
   where
@@ -82,23 +83,25 @@ solved_none m s b l e n none = record {
     ended h = cc
 
     empty : HasList m None (points_of s.listed.items)
-    empty = record { optimum = none; small = tt; listed = ap points_of l }
+    empty = record { optimum = none; listed = ap points_of l }
 
 -- the list at the optimum
 pub solved_list : (m : ModelParts) (s : Solved) (best : ℤ) → s.best ≡ Some best → s.end ≡ end.Done → s.nodes ≡ room_of m → unsigned_abs best ≤ 10 ^ 36 → IsLeast m best
     → IsFoundList m (cut_of best no_gap m.scale) s.listed.items → IsSolved m s
 solved_list m s best b e n small least list = record {
   answer = subst (λ ended. EndsWith m ended s.best (points_of s.listed.items)) (sym e) (subst (λ o. HasList m o (points_of s.listed.items)) (sym b) whole);
+  small = subst (λ o. IfSome o (λ v. unsigned_abs v ≤ 10 ^ 36)) (sym b) small;
   legal = subst (λ ended. IsLegal m (points_of s.listed.items) ended s.nodes) (sym e) (legal_list m best (points_of s.listed.items) s.nodes least list.points n);
 }
   where
     whole : HasList m (Some best) (points_of s.listed.items)
-    whole = record { optimum = least; small = small; listed = list.points }
+    whole = record { optimum = least; listed = list.points }
 
 -- the node limit stopped the run
-pub solved_stopped : (m : ModelParts) (s : Solved) → s.listed.items ≡ [] → s.end ≡ end.NodeLimit → s.nodes ≡ 199999 → node_limit < room_of m → IsSolved m s
-solved_stopped m s l e n h = record {
+pub solved_stopped : (m : ModelParts) (s : Solved) → s.best ≡ None → s.listed.items ≡ [] → s.end ≡ end.NodeLimit → s.nodes ≡ 199999 → node_limit < room_of m → IsSolved m s
+solved_stopped m s b l e n h = record {
   answer = subst (λ ended. EndsWith m ended s.best (points_of s.listed.items)) (sym e) tt;
+  small = subst (λ o. IfSome o (λ v. unsigned_abs v ≤ 10 ^ 36)) (sym b) tt;
   legal = subst (λ xs. IsLegal m (points_of xs) s.end s.nodes) (sym l) (legal_none m s.end s.nodes (λ _. omega (arith, n)) (λ _. h) (λ _. omega (arith, n)) (99999, n) (omega (arith, n, h)));
 }
 

@@ -1,4 +1,6 @@
+pub mod Endings
 pub mod Outputs
+pub mod Ready
 pub mod Replies
 pub mod Runs
 pub mod Solving

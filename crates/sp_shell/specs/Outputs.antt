@@ -20,3 +20,8 @@ Prints (Err end) old new before after text = AppendsPart old new (before ++ text
 abbrev pub joined : List (Bor (List ℕ)) → List ℕ
 joined [] = []
 joined (p ∷ ps) = p.now ++ joined ps
+
+-- Ok: all of the text went out. On an error some front part of it did.
+abbrev pub Sends : {X : Type 0} → Result X SinkEnd → Option (List ℕ) → Option (List ℕ) → List ℕ → Type 0
+Sends (Ok done) old new text = new ≡ append old text
+Sends (Err end) old new text = AppendsPart old new text

@@ -7,6 +7,8 @@ use Rattle.sp_model.specs.Boxes.{IsWithin}
 use Rattle.sp_model.specs.Models.{objective, root_of}
 use Rattle.sp_shell.specs.declared.journals.Entry.{Entry}
 use Rattle.sp_shell.specs.declared.journals.Entry.TheVariants as entry
+use Rattle.sp_shell.specs.declared.journals.RunEnd.{RunEnd}
+use Rattle.sp_shell.specs.declared.journals.RunEnd.TheVariants as end
 use Rattle.sp_shell.specs.declared.wordings.Wording.TheVariants as wording
 use Rattle.sp_shell.specs.Wording.{spelling}
 
@@ -64,3 +66,11 @@ IsPrintable names m (entry.Found x) = IsWithin (root_of m) x × (length x ≡ le
 IsPrintable names m (entry.Fetched answer) = Unit {0}
 IsPrintable names m (entry.Stored answer) = Unit {0}
 IsPrintable names m (entry.Ended ended nodes) = Unit {0}
+
+-- the reply to a run that ended so, from what was noted; a run of all points ends in no other way
+unfoldable pub reply_text : List (List ℕ) → ModelParts → Option ℤ → ℕ → RunEnd → ℕ → List Entry → List ℕ
+reply_text names m best number end.Done nodes entries = done_head m.maximize best number ++ flat_map (entry_line names m) entries
+reply_text names m best number end.NodeLimit nodes entries = stopped_text nodes
+reply_text names m best number end.Optimal nodes entries = []
+reply_text names m best number end.Infeasible nodes entries = []
+reply_text names m best number end.PopulateLimit nodes entries = []

@@ -134,9 +134,9 @@ pub record IsFileRun (entries : List Entry) (text : List ℕ) (s : Status) : Typ
   pub follows : Follows answer rest text s
 
 -- what a run over these words says, once it is known which file they name
-abbrev pub Text : Option (List ℕ) → List Entry → List ℕ → Status → Type 0
-Text None = IsUsage
-Text (Some name) = IsFileRun
+abbrev pub RunText : Option (List ℕ) → List Entry → List ℕ → Status → Type 0
+RunText None = IsUsage
+RunText (Some name) = IsFileRun
 
 -- What went out.
 

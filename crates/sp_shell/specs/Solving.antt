@@ -12,7 +12,6 @@ use Rattle.sp_shell.specs.Runs.{IsLegal, no_gap}
 -- the optimum and the list
 pub record HasList (m : ModelParts) (best : Option ℤ) (points : List (List ℤ)) : Type 0 where
   pub optimum : IsOptimum m best
-  pub small : IfSome best (λ v. unsigned_abs v ≤ 10 ^ 36)
   pub listed : IsListAt m no_gap best points
 
 -- what is known after a run that ended so
@@ -25,4 +24,5 @@ EndsWith m end.PopulateLimit best points = ⊥
 
 pub record IsSolved (m : ModelParts) (s : Solved) : Type 0 where
   pub answer : EndsWith m s.end s.best (points_of s.listed.items)
+  pub small : IfSome s.best (λ v. unsigned_abs v ≤ 10 ^ 36)
   pub legal : IsLegal m (points_of s.listed.items) s.end s.nodes

@@ -3,10 +3,13 @@
 
 mod journals;
 mod outputs;
+mod preparing;
 mod printing;
 mod replying;
+mod runs;
 mod solving;
 mod walks;
 mod wordings;
 
 pub use journals::{Entry, FetchNote, Journal, RunEnd, StoreNote};
+pub use runs::{Ending, run};

@@ -1,0 +1,29 @@
+-- How the parts of a run end.
+use Rattle.std.specs.Prelude.{◌≡◌, ℕ, List, [], ◌∷◌, Option, Result, Ok, Err}
+use Rattle.sp_base.specs.declared.sinks.SinkEnd.{SinkEnd}
+use Rattle.sp_base.specs.declared.sinks.SinkEnd.TheVariants as sunk
+use Rattle.sp_base.specs.declared.statuses.Status.{Status}
+use Rattle.sp_base.specs.declared.statuses.Status.TheVariants as status
+use Rattle.sp_shell.specs.Outputs.{Sends}
+
+-- the status of a run that was to end with good, after its text was sent or not
+abbrev pub status_after : {X : Type 0} → Result X SinkEnd → Status → Status
+status_after (Ok done) good = good
+status_after (Err sunk.Fault) good = status.SinkFault
+status_after (Err sunk.NoMemory) good = status.NoMemory
+
+-- the text was sent, or a front part of it, and the status says so; good is the status of the whole text
+pub record Answers (good s : Status) (old new : Option (List ℕ)) (text : List ℕ) : Type 0 where
+  pub sent : Result (Unit {0}) SinkEnd
+  pub status_is : s ≡ status_after sent good
+  pub sends : Sends sent old new text
+
+-- a status that comes with a whole text
+abbrev pub IsWhole : Status → Type 0
+IsWhole status.Clean = Unit {0}
+IsWhole status.SomeRefused = Unit {0}
+IsWhole status.Usage = Unit {0}
+IsWhole status.SourceFault = ⊥
+IsWhole status.SinkFault = ⊥
+IsWhole status.NoMemory = ⊥
+IsWhole status.StreamTooLong = ⊥

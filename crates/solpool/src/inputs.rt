@@ -1,5 +1,8 @@
 //! A reader of the system as a source.
-ghost use Rattle.std.specs.Prelude.{None};
+ghost use Rattle.std.specs.Prelude.{◌≡◌, ◌<◌, ◌≤◌, None, length};
+ghost use Rattle.sp_base.specs.Counts.{Rose};
+ghost use Rattle.sp_base.specs.Source.{Gives};
+ghost use Rattle.solpool.specs.Moves.{Takes};
 
 use sp_base::{Got, Source};
 use std::io::Read;
@@ -24,7 +27,13 @@ impl<R: Read + Drop> Source for HostSource<R> {
     ghost faults = { λ s. s.faults };
 
     #[tactic(auto, unfolding(sp_base::specs::Told::prepend))]
-    fn read(&mut self, out: &mut [u8]) -> Got {
+    fn read(&mut self, out: &mut [u8]) -> Got
+        requires { 0 < length out.old }
+        ensures bytes { Gives result None None out.new }
+        ensures later { self.old.faults ≤ self.new.faults }
+        ensures failed { result ≡ Got.Failed → Rose self.old.faults self.new.faults }
+        ensures moved { Takes result (R.remaining self.old.inner) (R.remaining self.new.inner) out.new }
+    {
         match self.inner.read(out) {
             Ok(0) => Got::End,
             Ok(count) => Got::Bytes(count),

@@ -1,5 +1,8 @@
 //! A writer of the system as a sink.
-ghost use Rattle.std.specs.Prelude.{None, false};
+ghost use Rattle.std.specs.Prelude.{◌≡◌, ◌≢◌, ◌<◌, ◌≤◌, None, false, length};
+ghost use Rattle.sp_base.specs.Counts.{Rose};
+ghost use Rattle.sp_base.specs.Sink.{Takes};
+ghost use Rattle.solpool.specs.Moves.{Hands};
 
 use sp_base::{Put, Sink};
 use std::io::Write;
@@ -27,7 +30,14 @@ impl<W: Write + Drop> Sink for HostSink<W> {
     ghost takes_memory = { false };
 
     #[tactic(auto, unfolding(sp_base::specs::Told::append))]
-    fn write(&mut self, piece: &[u8]) -> Put {
+    fn write(&mut self, piece: &[u8]) -> Put
+        requires { 0 < length piece.now }
+        ensures bytes { Takes result None None piece.now }
+        ensures later { self.old.faults ≤ self.new.faults }
+        ensures failed { result ≡ Put.Failed → Rose self.old.faults self.new.faults }
+        ensures no_memory { result ≢ Put.NoMemory }
+        ensures moved { Hands result (W.contents self.old.inner) (W.contents self.new.inner) piece.now }
+    {
         match self.inner.write(piece) {
             Ok(0) | Err(_) => {
                 self.faults = self.faults.saturating_add(1);

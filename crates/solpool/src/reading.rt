@@ -1,8 +1,9 @@
 //! The contents of one file.
-ghost use Rattle.std.specs.Prelude.{◌≡◌, ℕ, ◌<◌, ◌≤◌, List, length, take, Option, None, IfOk, OnErr};
+ghost use Rattle.std.specs.Prelude.{◌≡◌, ℕ, ◌<◌, ◌≤◌, List, length, take, None, IfOk, OnErr};
+ghost use Rattle.std.specs.IoError.{error_kind};
 ghost use Rattle.std.specs.Io.KnownBytes.{Consumes, IsAtEnd, Keeps};
 ghost use Rattle.sp_base.specs.Shelf.{Fetches};
-ghost use Rattle.solpool.specs.Contents.{IsContentsOf};
+ghost use Rattle.solpool.specs.Contents.{IsContentsOf, refusal_of};
 
 use sp_base::{Fetched, Text};
 use std::alloc::Global;
@@ -12,10 +13,9 @@ use std::io::{Error, ErrorKind, Read};
 /// How many bytes are asked of a file at once.
 const PIECE: usize = 65536;
 
-/// What is answered where a file can't be opened or read.
+/// What is answered where a file can't be opened.
 pub fn refused(error: &Error) -> Fetched
-    ensures within { (path : List ℕ) (limit : ℕ) → Fetches result None path limit }
-    ensures exact { (left : Option (List ℕ)) (limit : ℕ) → IsContentsOf result left limit }
+    ensures { result ≡ refusal_of (error_kind error.now) }
 {
     match error.kind() {
         ErrorKind::NotFound => Fetched::Absent,
@@ -59,8 +59,11 @@ pub fn contents<F: Read>(alloc: Global, file: &mut F, limit: u64) -> Fetched
                 }
             }
             Err(error) => {
+                if error.kind() == ErrorKind::OutOfMemory {
+                    return Fetched::NoMemory;
+                }
                 if error.kind() != ErrorKind::Interrupted {
-                    return refused(&error);
+                    return Fetched::Failed;
                 }
             }
         }

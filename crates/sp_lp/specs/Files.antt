@@ -1,5 +1,5 @@
 -- The small LP files, and the words that they are spelled with.
-use Rattle.std.specs.Prelude.{◌≡◌, ℕ, ◌<◌, ◌≤◌, Bool, true, false, ◌&&◌, IsTrue, List, [], ◌∷◌, ◌++◌, length, map, flat_map, drop, Option, None, Some, codes}
+use Rattle.std.specs.Prelude.{◌≡◌, ◌≤◌, Bool, true, false, ◌&&◌, IsTrue, List, [], ◌∷◌, ◌++◌, length, map, flat_map, Option, None, Some, codes}
 use Rattle.std.specs.List.{list_all}
 use Rattle.sp_lp.specs.Words.{Word, is_name, is_numeral}
 use Rattle.sp_lp.specs.Names.{is_among, distinct}

@@ -1,0 +1,61 @@
+#!/usr/bin/env python3
+"""Measures what a written term costs in `feasible` and `value`, beside the same loops in Rust, and writes its part of
+docs/performance.md.
+
+usage: bench/model.py       after 'rt run' in crates/model_bench; needs rustc, and builds bench/model_bench.rs alone
+"""
+import pathlib
+import shutil
+import subprocess
+import sys
+import tempfile
+
+from tables import TOP, best, built, machine, put
+
+VARIABLES, TERMS = 2000, 100_000
+# the question, the terms that one round adds up, and the two numbers of rounds
+QUESTIONS = [("feasible", TERMS, 1_000, 5_000), ("value", VARIABLES, 50_000, 250_000)]
+
+
+def each_term(program, question, terms, few, many, folder):
+    """Nanoseconds a term, by the difference of two numbers of rounds, and what was printed."""
+    (short, _, first), (long, _, last) = (
+        best(program, [question, str(VARIABLES), str(TERMS), str(rounds)], folder) for rounds in (few, many))
+    return (long - short) / ((many - few) * terms) * 1e9, (first, last)
+
+
+def main():
+    proved = built("model_bench")
+    if shutil.which("rustc") is None:
+        sys.exit("no rustc to build bench/model_bench.rs with")
+    with tempfile.TemporaryDirectory() as folder:
+        plain = pathlib.Path(folder) / "plain"
+        source = TOP / "bench" / "model_bench.rs"
+        subprocess.run(["rustc", "-O", "--edition", "2021", "-o", str(plain), str(source)], check=True)
+        table = []
+        for question, terms, few, many in QUESTIONS:
+            here, printed = each_term(proved, question, terms, few, many, folder)
+            there, expected = each_term(plain, question, terms, few, many, folder)
+            if printed != expected:
+                sys.exit(f"{question}: the two programs print {printed} and {expected}")
+            table.append(f"| `{question}` | {terms:,} | {here:.2f} | {there:.2f} | {here / there:.2f} |")
+        rust = subprocess.run(["rustc", "--version"], capture_output=True, text=True).stdout.split(" (")[0]
+    text = f"""## A term of the model
+
+Written by `bench/model.py`, on {machine()}. Nanoseconds for each written term of a model with {VARIABLES:,} variables
+and {TERMS:,} terms in 50 rows, all of which hold: the difference between runs of two numbers of rounds, each the least of
+three. Beside it the same loops in Rust ({rust}, `-O`) with `checked_mul` and `checked_add`; both programs print the
+same sums.
+
+| Call | Terms a call | ns a term, proved | ns a term, Rust with checks | Proved over Rust |
+|---|---|---|---|---|
+""" + "\n".join(table) + """
+
+`feasible` looks at the rows in order and stops at the first one that doesn't hold; `value` reads the objective's terms.
+Both take no memory, and both grow with the written terms alone.
+"""
+    put("model", text)
+    print(text)
+
+
+main()

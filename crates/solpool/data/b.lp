@@ -1,0 +1,5 @@
+Minimize
+ obj:
+Binaries
+ x y z
+End

@@ -1,0 +1,8 @@
+-- What was read so far is within the limit, and was taken from the front of the reader.
+use Rattle.std.proofs.Common.{◌≤◌, vec_len}
+use Rattle.std.specs.Io.KnownBytes.{Consumes}
+use Rattle.solpool.proofs.reading.contents.Given as goal
+
+abbrev pub invariant-loop : goal.invariant-loop
+invariant-loop g l =
+    (vec_len l.bytes ≤ l.limit) × Consumes (g.F.Read.remaining l.initial.file) (g.F.Read.remaining l.file) l.bytes.items

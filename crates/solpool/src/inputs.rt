@@ -1,0 +1,37 @@
+//! A reader of the system as a source.
+ghost use Rattle.std.specs.Prelude.{None};
+
+use sp_base::{Got, Source};
+use std::io::Read;
+
+/// A reader, as standard input, with a count of its failed reads. It tells nothing of its bytes.
+#[derive(Drop)]
+pub struct HostSource<R: Read + Drop> {
+    inner: R,
+    faults: u64,
+}
+
+impl<R: Read + Drop> HostSource<R> {
+    /// The source of what this reader gives.
+    pub fn new(inner: R) -> HostSource<R> {
+        HostSource { inner, faults: 0 }
+    }
+}
+
+impl<R: Read + Drop> Source for HostSource<R> {
+    ghost left = { λ _. None };
+
+    ghost faults = { λ s. s.faults };
+
+    #[tactic(auto, unfolding(sp_base::specs::Told::prepend))]
+    fn read(&mut self, out: &mut [u8]) -> Got {
+        match self.inner.read(out) {
+            Ok(0) => Got::End,
+            Ok(count) => Got::Bytes(count),
+            Err(_) => {
+                self.faults = self.faults.saturating_add(1);
+                Got::Failed
+            }
+        }
+    }
+}

@@ -1,0 +1,39 @@
+//! A writer of the system as a sink.
+ghost use Rattle.std.specs.Prelude.{None, false};
+
+use sp_base::{Put, Sink};
+use std::io::Write;
+
+/// A writer, as standard output, with a count of the writes that failed or took nothing. It tells nothing of the
+/// bytes that it took, and keeps none back.
+#[derive(Drop)]
+pub struct HostSink<W: Write + Drop> {
+    inner: W,
+    faults: u64,
+}
+
+impl<W: Write + Drop> HostSink<W> {
+    /// The sink that hands all bytes to this writer.
+    pub fn new(inner: W) -> HostSink<W> {
+        HostSink { inner, faults: 0 }
+    }
+}
+
+impl<W: Write + Drop> Sink for HostSink<W> {
+    ghost held = { λ _. None };
+
+    ghost faults = { λ s. s.faults };
+
+    ghost takes_memory = { false };
+
+    #[tactic(auto, unfolding(sp_base::specs::Told::append))]
+    fn write(&mut self, piece: &[u8]) -> Put {
+        match self.inner.write(piece) {
+            Ok(0) | Err(_) => {
+                self.faults = self.faults.saturating_add(1);
+                Put::Failed
+            }
+            Ok(count) => Put::Took(count),
+        }
+    }
+}

@@ -1,0 +1,109 @@
+//! The files of the system as a shelf.
+ghost use Rattle.std.specs.Prelude.{ℕ, List, None};
+ghost use Rattle.sp_base.specs.Shelf.{Fetches};
+
+use crate::reading::{contents, refused};
+use sp_base::{Fetched, Shelf, Stored, Text};
+use std::alloc::Global;
+use std::fs::{File, OpenFile, OpenOptions};
+use std::io::{Error, ErrorKind, Write};
+use std::rt::Files;
+use std::{io, str};
+
+/// The files that the system has, by their paths, with counts of what went wrong. It tells nothing of the files.
+#[derive(Drop)]
+pub struct HostShelf<'a, R: Files> {
+    alloc: Global,
+    files: &'a R,
+    faults: u64,
+    absences: u64,
+    overruns: u64,
+}
+
+impl<'a, R: Files> HostShelf<'a, R> {
+    /// The shelf of these files. What is read is held in memory of `alloc`.
+    pub fn new(alloc: Global, files: &'a R) -> HostShelf<'a, R> {
+        HostShelf {
+            alloc,
+            files,
+            faults: 0,
+            absences: 0,
+            overruns: 0,
+        }
+    }
+}
+
+impl<'a, R: Files> Shelf for HostShelf<'a, R> {
+    ghost files = { λ _. None };
+
+    ghost faults = { λ s. s.faults };
+
+    ghost absences = { λ s. s.absences };
+
+    ghost overruns = { λ s. s.overruns };
+
+    fn read(&mut self, name: &Text, limit: u64) -> Fetched {
+        match fetch(self.alloc, self.files, name.as_slice(), limit) {
+            Fetched::Bytes(bytes) => Fetched::Bytes(bytes),
+            Fetched::Absent => {
+                self.absences = self.absences.saturating_add(1);
+                Fetched::Absent
+            }
+            Fetched::TooLong => {
+                self.overruns = self.overruns.saturating_add(1);
+                Fetched::TooLong
+            }
+            Fetched::Failed => {
+                self.faults = self.faults.saturating_add(1);
+                Fetched::Failed
+            }
+            Fetched::NoMemory => Fetched::NoMemory,
+        }
+    }
+
+    #[tactic(auto, unfolding(sp_base::specs::Shelf::set_file))]
+    fn write(&mut self, name: &Text, bytes: &[u8]) -> Stored {
+        match store(self.files, name.as_slice(), bytes) {
+            Ok(()) => Stored::Kept,
+            Err(_) => {
+                self.faults = self.faults.saturating_add(1);
+                Stored::Failed
+            }
+        }
+    }
+}
+
+/// The bytes of the file at a path, if there are at most `limit` of them. There is no file at a path that isn't UTF-8.
+fn fetch<R: Files>(alloc: Global, files: &R, name: &[u8], limit: u64) -> Fetched
+    ensures { (path : List ℕ) → Fetches result None path limit }
+{
+    let Ok(path) = str::from_utf8(name) else {
+        return Fetched::Absent;
+    };
+    match OpenOptions::new().read(true).open(files, path) {
+        Ok(mut file) => {
+            if is_longer(&file, limit) {
+                return Fetched::TooLong;
+            }
+            contents(alloc, &mut file, limit)
+        }
+        Err(error) => refused(&error),
+    }
+}
+
+/// Whether this is a plain file that the system says to have more than `limit` bytes. Such a file isn't read.
+fn is_longer<F: OpenFile>(file: &F, limit: u64) -> bool {
+    match file.metadata() {
+        Ok(told) => told.is_file() && told.len() > limit,
+        Err(_) => false,
+    }
+}
+
+/// Makes the file at a path, or empties it, and writes these bytes.
+fn store<R: Files>(files: &R, name: &[u8], bytes: &[u8]) -> io::Result<()> {
+    let Ok(path) = str::from_utf8(name) else {
+        return Err(Error::from(ErrorKind::InvalidInput));
+    };
+    let mut file = File::create(files, path)?;
+    file.write_all(bytes)
+}

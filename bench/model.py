@@ -19,7 +19,7 @@ QUESTIONS = [("feasible", TERMS, 1_000, 5_000), ("value", VARIABLES, 50_000, 250
 
 def each_term(program, question, terms, few, many, folder):
     """Nanoseconds a term, by the difference of two numbers of rounds, and what was printed."""
-    (short, _, first), (long, _, last) = (
+    (short, first), (long, last) = (
         best(program, [question, str(VARIABLES), str(TERMS), str(rounds)], folder) for rounds in (few, many))
     return (long - short) / ((many - few) * terms) * 1e9, (first, last)
 

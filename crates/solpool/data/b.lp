@@ -1,5 +1,0 @@
-Minimize
- obj:
-Binaries
- x y z
-End

@@ -1,5 +1,5 @@
 //! A reader of the system as a source.
-ghost use Rattle.std.specs.Prelude.{None};
+ghost use Rattle.std.specs.Prelude.{◌≡◌, None};
 
 use sp_base::{Got, Source};
 use std::io::Read;
@@ -13,7 +13,9 @@ pub struct HostSource<R: Read + Drop> {
 
 impl<R: Read + Drop> HostSource<R> {
     /// The source of what this reader gives.
-    pub fn new(inner: R) -> HostSource<R> {
+    pub fn new(inner: R) -> HostSource<R>
+        ensures { result.faults ≡ 0 }
+    {
         HostSource { inner, faults: 0 }
     }
 }

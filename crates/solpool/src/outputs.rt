@@ -1,5 +1,5 @@
 //! A writer of the system as a sink.
-ghost use Rattle.std.specs.Prelude.{None, false};
+ghost use Rattle.std.specs.Prelude.{◌≡◌, None, false};
 
 use sp_base::{Put, Sink};
 use std::io::Write;
@@ -14,7 +14,9 @@ pub struct HostSink<W: Write + Drop> {
 
 impl<W: Write + Drop> HostSink<W> {
     /// The sink that hands all bytes to this writer.
-    pub fn new(inner: W) -> HostSink<W> {
+    pub fn new(inner: W) -> HostSink<W>
+        ensures { result.faults ≡ 0 }
+    {
         HostSink { inner, faults: 0 }
     }
 }

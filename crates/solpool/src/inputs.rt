@@ -16,7 +16,9 @@ pub struct HostSource<R: Read + Drop> {
 
 impl<R: Read + Drop> HostSource<R> {
     /// The source of what this reader gives.
-    pub fn new(inner: R) -> HostSource<R> {
+    pub fn new(inner: R) -> HostSource<R>
+        ensures { result.faults ≡ 0 }
+    {
         HostSource { inner, faults: 0 }
     }
 }

@@ -1,5 +1,5 @@
 //! The files of the system as a shelf.
-ghost use Rattle.std.specs.Prelude.{ℕ, List, None};
+ghost use Rattle.std.specs.Prelude.{◌≡◌, ℕ, List, None};
 ghost use Rattle.sp_base.specs.Shelf.{Fetches};
 
 use crate::reading::{contents, refused};
@@ -22,7 +22,11 @@ pub struct HostShelf<'a, R: Files> {
 
 impl<'a, R: Files> HostShelf<'a, R> {
     /// The shelf of these files. What is read is held in memory of `alloc`.
-    pub fn new(alloc: Global, files: &'a R) -> HostShelf<'a, R> {
+    pub fn new(alloc: Global, files: &'a R) -> HostShelf<'a, R>
+        ensures faults { result.faults ≡ 0 }
+        ensures absences { result.absences ≡ 0 }
+        ensures overruns { result.overruns ≡ 0 }
+    {
         HostShelf {
             alloc,
             files,

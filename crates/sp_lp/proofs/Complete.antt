@@ -1,26 +1,24 @@
 -- What is spelled so is read.
-use Rattle.std.proofs.Common.{◌≡◌, ℕ, ◌+◌, ◌-◌, ◌<◌, ◌≤◌, Bool, true, false, ◌&&◌, not, cond, List, [], ◌∷◌, ◌++◌, length, take, map, refl, ap, ◌∙◌, sym, subst, Option, None, Some, arith, length-append, append_assoc}
-use Rattle.std.specs.Prelude.{if◌then◌else◌, option_and_then, codes, fold, nat_le, IfSome}
-use Rattle.std.specs.List.{list_all, list_any}
-use Rattle.std.specs.Str.{bytes_eq}
-use Rattle.std.proofs.lemmas.Bool.{leb-true, le-leb}
+use Rattle.std.proofs.Common.{◌≡◌, ℕ, ◌-◌, Bool, true, false, ◌&&◌, not, List, [], ◌∷◌, ◌++◌, length, take, map, refl, ap, ◌∙◌, sym, subst, Option, None, Some, append_assoc}
+use Rattle.std.specs.Prelude.{if◌then◌else◌, codes, fold}
+use Rattle.std.specs.List.{list_all}
 use Rattle.std.proofs.lemmas.List.{append-nil}
 use Rattle.sp_lp.specs.declared.kinds.Kind.{Kind}
-use Rattle.sp_lp.specs.declared.kinds.Kind.TheVariants.{Maximize, Minimize, Objective, Subject, To, Binaries, End, Plus, Minus, AtMost, Name, Label, Whole, Negative, Other}
+use Rattle.sp_lp.specs.declared.kinds.Kind.TheVariants.{Maximize, Minimize, Objective, Subject, To, Binaries, End, Plus, Minus, AtMost, Name, Label, Whole, Negative}
 use Rattle.sp_lp.specs.declared.places.Item.{Item}
 use Rattle.sp_lp.specs.declared.places.Item.TheVariants.{First, Signed, Numbered, After}
 use Rattle.sp_lp.specs.declared.places.Place.{Place}
-use Rattle.sp_lp.specs.declared.places.Place.TheVariants.{Start, DirectionRead, Heading, Cost, Sections, SubjectRead, TitleRead, Rows, Terms, Side, SideRead, BinariesRead, FirstName, MoreNames, Ending, EndRead, Done}
+use Rattle.sp_lp.specs.declared.places.Place.TheVariants.{DirectionRead, Heading, Cost, Sections, SubjectRead, TitleRead, Rows, Terms, Side, SideRead, BinariesRead, FirstName, MoreNames, Ending, EndRead, Done}
 use Rattle.sp_lp.specs.declared.reader.Reader.{Reader}
 use Rattle.sp_lp.specs.Words.{Word, is_name, is_numeral, value_of}
 use Rattle.sp_lp.specs.Names.{is_among, with_name}
 use Rattle.sp_lp.specs.Kinds.{kind_of}
 use Rattle.sp_lp.specs.Files.{Sign, Unsigned, Plus as PlusSign, Minus as MinusSign, TermText, RowText, File, direction, section, sign_words, number_words, term_words, expression, side_word, label_of, row_words, spelled, rows_of, is_number, has_sign, is_term, are_signed, is_expression, has_some, is_row}
 use Rattle.sp_lp.specs.Reads.{is_minus, size_of}
-use Rattle.sp_lp.specs.Machine.{start, at, next_place, end_place, next_item, size_at, sum_at, sum_place, side_place, moved, directed, with_term, termed, summed, labelled, rowed, listed, take_word, fits, guarded, step, with_cost, with_row, named, ended, end_line, line_from, finished, run}
+use Rattle.sp_lp.specs.Machine.{start, at, size_at, sum_at, with_term, termed, summed, labelled, take_word, step, with_cost, with_row, ended, end_line, line_from, run}
 use Rattle.sp_lp.proofs.WordLaws.{both}
 use Rattle.sp_lp.proofs.KindLaws.{kind-name, kind-numeral, kind-label, kind-negative, kind-Maximize, kind-Minimize, kind-Objective, kind-Subject, kind-To, kind-Binaries, kind-End, kind-Plus, kind-Minus, kind-AtMost, take-front, label-length}
-use Rattle.sp_lp.proofs.States.{terms-labels, with_terms, with_label, with_text, with_rows, with_names, headed, costed, behind_rows, read_of}
+use Rattle.sp_lp.proofs.States.{terms-labels, with_terms, with_label, with_text, with_rows, with_names, headed, costed, read_of}
 use Rattle.sp_lp.proofs.Sound.{all_new, take-sum}
 
 -- a test that all pass

@@ -1,12 +1,12 @@
 -- Names that are put behind one another, each once.
-use Rattle.std.proofs.Common.{◌≡◌, ℕ, suc, ◌+◌, ◌-◌, ◌<◌, ◌≤◌, Bool, true, false, not, ◌&&◌, ◌||◌, cond, List, [], ◌∷◌, ◌++◌, length, map, refl, ap, ◌∙◌, sym, subst, arith, length-append, append_assoc}
+use Rattle.std.proofs.Common.{◌≡◌, ℕ, ◌+◌, ◌≤◌, Bool, true, false, not, ◌&&◌, ◌||◌, cond, List, [], ◌∷◌, ◌++◌, length, map, refl, ap, ◌∙◌, sym, subst, arith, length-append, append_assoc}
 use Rattle.std.specs.Prelude.{if◌then◌else◌, fold}
-use Rattle.std.specs.List.{list_all, list_any, prefix_len, position_or_len}
+use Rattle.std.specs.List.{list_all, list_any, position_or_len}
 use Rattle.std.specs.Str.{bytes_eq}
 use Rattle.std.proofs.lemmas.List.{append-nil}
 use Rattle.std.proofs.lemmas.Slice.Eq.{bytes_eq-Decides}
 use Rattle.sp_lp.specs.Words.{Word}
-use Rattle.sp_lp.specs.Names.{is_among, place_of, with_name, distinct}
+use Rattle.sp_lp.specs.Names.{is_among, place_of, with_name}
 use Rattle.sp_lp.specs.Files.{RowText}
 use Rattle.sp_lp.proofs.WordLaws.{both}
 use Rattle.sp_lp.proofs.Sound.{all_new, not-and}

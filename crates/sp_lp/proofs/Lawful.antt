@@ -1,6 +1,6 @@
 -- The model of a small file keeps the rules of a model.
-use Rattle.std.proofs.Common.{◌≡◌, ℕ, zero, suc, ◌+◌, ◌*◌, ◌^◌, ◌<◌, ◌≤◌, max, Bool, true, false, not, ◌&&◌, ◌||◌, ◌==◌, cond, List, [], ◌∷◌, ◌++◌, length, map, filter, refl, ap, ◌∙◌, sym, subst, Option, None, Some, arith, length-append}
-use Rattle.std.specs.Prelude.{All, AllPairs, replicate, ℤ, pos, negsuc, ◌+ℤ◌, ◌*ℤ◌, neg_ℤ, unsigned_abs, flat_map, if◌then◌else◌, ◌≢◌, nat_le}
+use Rattle.std.proofs.Common.{◌≡◌, ℕ, zero, suc, ◌+◌, ◌*◌, ◌^◌, ◌<◌, ◌≤◌, Bool, true, false, not, ◌&&◌, ◌||◌, ◌==◌, cond, List, [], ◌∷◌, ◌++◌, length, map, refl, ap, ◌∙◌, sym, subst, Option, None, Some, arith, length-append}
+use Rattle.std.specs.Prelude.{All, replicate, ℤ, pos, ◌+ℤ◌, neg_ℤ, unsigned_abs, if◌then◌else◌, ◌≢◌}
 use Rattle.std.specs.List.{list_all, list_any, position_or_len}
 use Rattle.std.specs.Str.{bytes_eq}
 use Rattle.std.proofs.lemmas.Bool.{eqb-true}
@@ -8,19 +8,17 @@ use Rattle.std.proofs.lemmas.Int.{ints}
 use Rattle.std.proofs.lemmas.List.{length-replicate, length-map}
 use Rattle.std.proofs.lemmas.List.Elements.{All-nil, All-cons, All-weaker, All-map}
 use Rattle.std.proofs.lemmas.List.Kept.{AllPairs-cons}
-use Rattle.sp_model.specs.declared.parts.ModelParts.{ModelParts}
-use Rattle.sp_model.specs.declared.parts.Row.{Row}
 use Rattle.sp_model.specs.Boxes.{Bounds, ranges, range_at}
-use Rattle.sp_model.specs.Sums.{Term, reach, width_over, side_width}
-use Rattle.sp_model.specs.Models.{is_nonzero, root_of, row_width, objective_width}
-use Rattle.sp_model.specs.Rules.{IsLawful, AreLawful, IsRangeLawful, AreTermsLawful, IsObjectiveLawful, IsRowLawful, IsIndicatorLawful, IsSetLawful}
+use Rattle.sp_model.specs.Sums.{Term, reach, width_over}
+use Rattle.sp_model.specs.Models.{is_nonzero}
+use Rattle.sp_model.specs.Rules.{IsLawful, IsRangeLawful, AreTermsLawful, IsRowLawful}
 use Rattle.sp_lp.specs.Words.{Word, is_name, is_numeral, value_of}
-use Rattle.sp_lp.specs.Names.{is_among, place_of, distinct}
-use Rattle.sp_lp.specs.Added.{signed, coefficient, past, added, turned}
-use Rattle.sp_lp.specs.Files.{Sign, TermText, RowText, File, rows_of, all_terms, used_names, variables, is_number, is_term, has_sign, are_signed, is_expression, has_some, is_row, IsSmallFile}
+use Rattle.sp_lp.specs.Names.{is_among}
+use Rattle.sp_lp.specs.Added.{signed, coefficient, past, turned}
+use Rattle.sp_lp.specs.Files.{TermText, RowText, File, rows_of, used_names, variables, is_number, is_term, has_sign, are_signed, is_expression, has_some, is_row, IsSmallFile}
 use Rattle.sp_lp.specs.Reads.{is_minus, size_of, term_of, sum_of, row_of, model_of}
 use Rattle.sp_lp.proofs.WordLaws.{both, numeral-below}
-use Rattle.sp_lp.proofs.AddedLaws.{span, with_first, coefficient-other, other}
+use Rattle.sp_lp.proofs.AddedLaws.{span, coefficient-other, other}
 use Rattle.sp_lp.proofs.DistinctLaws.{among-fold, all-append, all-agree, all-self}
 use Rattle.sp_lp.proofs.Meaning.{names_in, terms_in, names-append}
 

@@ -1,20 +1,20 @@
 -- What is read without limits, and fits them at its end, fits them all along.
-use Rattle.std.proofs.Common.{◌≡◌, ℕ, ◌+◌, ◌-◌, ◌≤◌, Bool, true, false, ◌&&◌, cond, List, [], ◌∷◌, ◌++◌, length, take, refl, ap, ◌∙◌, Option, None, Some, arith, length-append}
+use Rattle.std.proofs.Common.{◌≡◌, ℕ, ◌-◌, ◌≤◌, Bool, true, false, ◌&&◌, List, [], ◌∷◌, ◌++◌, length, take, refl, ap, ◌∙◌, Option, None, Some, arith, length-append}
 use Rattle.std.specs.Prelude.{if◌then◌else◌, option_and_then, nat_le, IfSome}
 use Rattle.std.specs.List.{list_all}
 use Rattle.std.proofs.lemmas.Bool.{leb-true, le-leb}
 use Rattle.sp_lp.specs.declared.kinds.Kind.{Kind}
 use Rattle.sp_lp.specs.declared.kinds.Kind.TheVariants.{Maximize, Minimize, AtMost, Name, Label}
 use Rattle.sp_lp.specs.declared.places.Item.{Item}
-use Rattle.sp_lp.specs.declared.places.Item.TheVariants.{First, Signed, Numbered, After}
+use Rattle.sp_lp.specs.declared.places.Item.TheVariants.{First, After}
 use Rattle.sp_lp.specs.declared.places.Place.{Place}
-use Rattle.sp_lp.specs.declared.places.Place.TheVariants.{Start, DirectionRead, Heading, Cost, Sections, SubjectRead, TitleRead, Rows, Terms, Side, SideRead, BinariesRead, FirstName, MoreNames, Ending, EndRead, Done}
+use Rattle.sp_lp.specs.declared.places.Place.TheVariants.{Start, Cost, Rows, Terms, SideRead, FirstName, MoreNames, Ending}
 use Rattle.sp_lp.specs.declared.reader.Reader.{Reader}
 use Rattle.sp_lp.specs.Words.{Word}
 use Rattle.sp_lp.specs.Names.{is_among, with_name}
 use Rattle.sp_lp.specs.Kinds.{kind_of}
 use Rattle.sp_lp.specs.Files.{File, spelled}
-use Rattle.sp_lp.specs.Machine.{start, at, next_place, end_place, next_item, size_at, sum_place, side_place, moved, directed, with_term, termed, summed, labelled, rowed, listed, take_word, fits, guarded, step, named, ended, end_line, line_from, finished, run}
+use Rattle.sp_lp.specs.Machine.{start, at, next_place, end_place, next_item, size_at, sum_place, side_place, moved, directed, termed, summed, rowed, listed, take_word, fits, guarded, step, ended, end_line, line_from, finished, run}
 use Rattle.sp_lp.proofs.WordLaws.{both}
 use Rattle.sp_lp.proofs.States.{read_of}
 use Rattle.sp_lp.proofs.Complete.{free, IsReadable, free-file}

@@ -1,14 +1,14 @@
 -- Lines and words, cut off one by one.
-use Rattle.std.proofs.Common.{◌≡◌, ℕ, ◌+◌, suc, Bool, true, false, not, ◌==◌, eqb, cond, List, [], ◌∷◌, length, take, drop, map, filter, refl, ap, ◌∙◌, sym, Option, Some, None, add-one, arith}
+use Rattle.std.proofs.Common.{◌≡◌, ℕ, ◌+◌, suc, Bool, true, false, not, ◌==◌, List, [], ◌∷◌, length, filter, refl, ap, ◌∙◌, sym, Option, Some, None, arith}
 use Rattle.std.proofs.lemmas.Bool.{eqb-true}
 use Rattle.std.specs.Prelude.{if◌then◌else◌, option_and_then}
-use Rattle.std.specs.List.{before_first, after_first, position_or_len, onto_first}
+use Rattle.std.specs.List.{before_first, after_first, onto_first}
 use Rattle.sp_lp.specs.declared.reader.Reader.{Reader}
 use Rattle.std.specs.Prelude.{Err}
 use Rattle.sp_lp.specs.declared.refusals.LpRefusal.{LpRefusal}
 use Rattle.sp_lp.specs.declared.refusals.LpRefusal.TheVariants.{Syntax, NoMemory}
 use Rattle.sp_lp.specs.Lines.{pieces, lines, words}
-use Rattle.sp_lp.specs.Machine.{step, piece, end_line, line_from, read_line, finished, read_lines, Gives, GivesReader}
+use Rattle.sp_lp.specs.Machine.{piece, end_line, line_from, read_line, finished, read_lines, Gives, GivesReader}
 
 one_more : (n : ℕ) → 1 + n ≡ suc n
 one_more n = omega arith

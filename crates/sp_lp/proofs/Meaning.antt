@@ -1,23 +1,20 @@
 -- What the reader holds behind a file.
-use Rattle.std.proofs.Common.{◌≡◌, ℕ, suc, ◌+◌, ◌-◌, ◌<◌, ◌≤◌, Bool, true, false, not, ◌&&◌, List, [], ◌∷◌, ◌++◌, length, map, refl, ap, ◌∙◌, sym, subst, Option, None, Some, arith, length-append, append_assoc}
-use Rattle.std.specs.Prelude.{fold, flat_map, pos}
+use Rattle.std.proofs.Common.{◌≡◌, ◌-◌, Bool, true, false, ◌&&◌, List, [], ◌∷◌, ◌++◌, length, map, refl, ap, ◌∙◌, sym, subst, None, Some, arith, length-append, append_assoc}
+use Rattle.std.specs.Prelude.{fold, flat_map}
 use Rattle.std.specs.List.{list_all}
 use Rattle.std.proofs.lemmas.List.{append-nil, map-append, length-map}
 use Rattle.std.proofs.lemmas.List.Sums.{fold-append}
 use Rattle.sp_model.specs.declared.parts.Row.{Row}
-use Rattle.sp_model.specs.Sums.{Term}
-use Rattle.sp_lp.specs.declared.places.Place.{Place}
-use Rattle.sp_lp.specs.declared.places.Place.TheVariants.{Done}
 use Rattle.sp_lp.specs.declared.reader.Reader.{Reader}
 use Rattle.sp_lp.specs.Words.{Word, value_of}
 use Rattle.sp_lp.specs.Names.{is_among, place_of, with_name, distinct}
 use Rattle.sp_lp.specs.Added.{signed, added, turned}
 use Rattle.sp_lp.specs.Files.{TermText, RowText, File, rows_of, all_terms, used_names, row_names, variables, IsSmallFile}
 use Rattle.sp_lp.specs.Reads.{is_minus, size_of, term_of, sum_of, row_of, model_of}
-use Rattle.sp_lp.specs.Machine.{start, with_term, with_cost, with_row, fits, parts_of}
-use Rattle.sp_lp.proofs.States.{terms-labels, with_terms, with_label, with_text, with_rows, with_names, headed, costed, behind_rows, read_of}
+use Rattle.sp_lp.specs.Machine.{with_term, fits, parts_of}
+use Rattle.sp_lp.proofs.States.{terms-labels, with_terms, with_label, with_text, with_rows, headed, costed, read_of}
 use Rattle.sp_lp.proofs.DistinctLaws.{place-stays, among-fold, all-append, all-fold, all-agree, all-self, new-fold, fold-new}
-use Rattle.sp_lp.proofs.Limits.{IsWithinLimits, limits-from_fits, fits-from_limits}
+use Rattle.sp_lp.proofs.Limits.{limits-from_fits, fits-from_limits}
 use Rattle.sp_lp.proofs.Sound.{all_new, IsRead}
 use Rattle.sp_lp.proofs.Complete.{IsReadable}
 

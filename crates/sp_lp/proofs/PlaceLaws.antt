@@ -1,9 +1,9 @@
 -- Places at which a word only moves on.
-use Rattle.std.proofs.Common.{◌≡◌, ℕ, Option, refl}
+use Rattle.std.proofs.Common.{◌≡◌, refl}
 use Rattle.sp_lp.specs.declared.kinds.Kind.{Kind}
 use Rattle.sp_lp.specs.declared.places.Item.{Item}
 use Rattle.sp_lp.specs.declared.places.Place.{Place}
-use Rattle.sp_lp.specs.declared.places.Place.TheVariants.{Start, DirectionRead, Heading, Cost, Sections, SubjectRead, TitleRead, Rows, Terms, Side, SideRead, BinariesRead, FirstName, MoreNames, Ending, EndRead, Done}
+use Rattle.sp_lp.specs.declared.places.Place.TheVariants.{Start, Cost, Rows, Terms, FirstName, MoreNames}
 use Rattle.sp_lp.specs.declared.reader.Reader.{Reader}
 use Rattle.sp_lp.specs.Words.{Word}
 use Rattle.sp_lp.specs.Machine.{next_place, moved, take_word}

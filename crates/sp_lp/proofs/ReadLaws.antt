@@ -1,5 +1,5 @@
 -- The reader's answer, and what a text means.
-use Rattle.std.proofs.Common.{◌≡◌, ℕ, Bool, true, false, ◌&&◌, not, cond, List, [], ◌∷◌, length, map, refl, ap, ◌∙◌, sym, subst, Option, None, Some}
+use Rattle.std.proofs.Common.{◌≡◌, ℕ, Bool, true, false, ◌&&◌, not, List, [], ◌∷◌, length, map, refl, ap, ◌∙◌, sym, Option, None, Some}
 use Rattle.std.specs.Prelude.{if◌then◌else◌, option_and_then, Err}
 use Rattle.std.specs.List.{list_all}
 use Rattle.std.proofs.lemmas.List.{length-replicate}
@@ -10,12 +10,11 @@ use Rattle.sp_lp.specs.declared.refusals.LpRefusal.{LpRefusal}
 use Rattle.sp_lp.specs.declared.refusals.LpRefusal.TheVariants.{Syntax, NoMemory}
 use Rattle.sp_lp.specs.Words.{Word}
 use Rattle.sp_lp.specs.Lines.{lines, words, ends_in_blank}
-use Rattle.sp_lp.specs.Files.{File, spelled, variables}
-use Rattle.sp_lp.specs.Reads.{Reads, model_of}
+use Rattle.sp_lp.specs.Reads.{Reads}
 use Rattle.sp_lp.specs.Machine.{start, fits, line_from, read_line, read_lines, run, parts_of, GivesReader}
 use Rattle.sp_lp.proofs.States.{read_of}
 use Rattle.sp_lp.proofs.Lawful.{model-lawful}
-use Rattle.sp_lp.proofs.Sound.{Holds, IsRead, run-back}
+use Rattle.sp_lp.proofs.Sound.{Holds, run-back}
 use Rattle.sp_lp.proofs.Limits.{run-file}
 use Rattle.sp_lp.proofs.Meaning.{read-names, read-parts, small-from_read, readable-from_small, fits-from_small}
 

@@ -1,11 +1,11 @@
 -- What is read is spelled so.
-use Rattle.std.proofs.Common.{◌≡◌, ℕ, ◌<◌, ◌≤◌, Bool, true, false, ◌&&◌, not, cond, List, [], ◌∷◌, ◌++◌, length, take, map, refl, ap, ◌∙◌, sym, subst, Option, None, Some, append_assoc, arith}
-use Rattle.std.specs.Prelude.{if◌then◌else◌, option_and_then, codes, fold, nat_le}
+use Rattle.std.proofs.Common.{◌≡◌, ℕ, Bool, true, false, ◌&&◌, not, List, [], ◌∷◌, ◌++◌, length, take, map, refl, ap, ◌∙◌, sym, subst, Option, None, Some, append_assoc}
+use Rattle.std.specs.Prelude.{if◌then◌else◌, option_and_then, codes, fold}
 use Rattle.std.specs.Prelude.{◌-◌}
 use Rattle.std.proofs.lemmas.List.{append-nil}
 use Rattle.std.specs.List.{list_all}
 use Rattle.sp_lp.specs.declared.kinds.Kind.{Kind}
-use Rattle.sp_lp.specs.declared.kinds.Kind.TheVariants.{Maximize, Minimize, Objective, Subject, To, Binaries, End, Plus, Minus, AtMost, Name, Label, Whole, Negative, Other}
+use Rattle.sp_lp.specs.declared.kinds.Kind.TheVariants.{Maximize, Minimize, Objective, Subject, To, Binaries, End, Plus, Minus, AtMost, Name, Label, Whole, Negative}
 use Rattle.sp_lp.specs.declared.places.Item.{Item}
 use Rattle.sp_lp.specs.declared.places.Item.TheVariants.{First, Signed, Numbered, After}
 use Rattle.sp_lp.specs.declared.places.Place.{Place}
@@ -14,9 +14,9 @@ use Rattle.sp_lp.specs.declared.reader.Reader.{Reader}
 use Rattle.sp_lp.specs.Words.{Word, is_name, is_numeral, value_of}
 use Rattle.sp_lp.specs.Names.{is_among, with_name}
 use Rattle.sp_lp.specs.Kinds.{kind_of}
-use Rattle.sp_lp.specs.Files.{Sign, Unsigned, Plus as PlusSign, Minus as MinusSign, TermText, RowText, File, direction, section, number_words, term_words, expression, side_word, label_of, row_words, spelled, rows_of, is_number, has_sign, is_term, are_signed, is_expression, has_some, is_row}
+use Rattle.sp_lp.specs.Files.{Unsigned, Plus as PlusSign, Minus as MinusSign, TermText, RowText, File, direction, section, number_words, term_words, expression, side_word, label_of, row_words, spelled, rows_of, is_number, has_sign, are_signed, is_expression, has_some, is_row}
 use Rattle.sp_lp.specs.Reads.{is_minus, size_of}
-use Rattle.sp_lp.specs.Machine.{start, at, next_place, end_place, next_item, size_at, sum_at, sum_place, side_place, moved, directed, with_term, termed, summed, labelled, rowed, listed, take_word, fits, guarded, step, with_cost, with_row, named, ended, end_line, line_from, finished, run, parts_of}
+use Rattle.sp_lp.specs.Machine.{start, at, sum_at, directed, with_term, summed, rowed, listed, take_word, fits, guarded, step, with_cost, with_row, ended, end_line, line_from, finished, run}
 use Rattle.sp_lp.proofs.KindLaws.{Spelled, kind-spelled}
 use Rattle.sp_lp.proofs.States.{terms-labels, with_terms, with_label, with_text, with_rows, with_names, headed, read_of}
 

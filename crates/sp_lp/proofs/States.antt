@@ -1,15 +1,14 @@
 -- The reader behind the parts of a file.
-use Rattle.std.proofs.Common.{◌≡◌, ℕ, Bool, true, false, List, [], ◌∷◌, refl}
+use Rattle.std.proofs.Common.{◌≡◌, Bool, List, [], ◌∷◌, refl}
 use Rattle.std.specs.Prelude.{fold}
-use Rattle.sp_lp.specs.declared.places.Item.TheVariants.{First}
 use Rattle.sp_lp.specs.declared.places.Place.{Place}
-use Rattle.sp_lp.specs.declared.places.Place.TheVariants.{Heading, Sections, Done}
+use Rattle.sp_lp.specs.declared.places.Place.TheVariants.{Done}
 use Rattle.sp_lp.specs.declared.reader.Reader.{Reader}
 use Rattle.sp_lp.specs.Words.{Word, value_of}
 use Rattle.sp_lp.specs.Names.{with_name}
 use Rattle.sp_lp.specs.Files.{TermText, RowText, File, rows_of}
 use Rattle.sp_lp.specs.Reads.{is_minus, size_of}
-use Rattle.sp_lp.specs.Machine.{start, at, with_term, with_cost, with_row}
+use Rattle.sp_lp.specs.Machine.{start, with_term, with_cost, with_row}
 
 abbrev pub with_terms : Reader → List TermText → Reader
 with_terms s [] = s

@@ -1,5 +1,5 @@
 -- Neighbours with one variable, put together.
-use Rattle.std.specs.Prelude.{ℕ, ◌==◌, if◌then◌else◌, List, [], ◌∷◌, ◌++◌, ℤ, pos, ◌+ℤ◌}
+use Rattle.std.specs.Prelude.{ℕ, ◌==◌, if◌then◌else◌, List, [], ◌∷◌, ◌++◌, ℤ, ◌+ℤ◌}
 use Rattle.sp_model.specs.Models.{is_nonzero}
 use Rattle.sp_model.specs.Sums.{Term}
 

@@ -1,5 +1,5 @@
 -- The small LP files, and the words that they are spelled with.
-use Rattle.std.specs.Prelude.{◌≡◌, ℕ, ◌<◌, ◌≤◌, Bool, true, false, ◌&&◌, IsTrue, List, [], ◌∷◌, ◌++◌, length, map, flat_map, drop, Option, None, Some, codes}
+use Rattle.std.specs.Prelude.{◌≡◌, ◌≤◌, Bool, true, false, ◌&&◌, IsTrue, List, [], ◌∷◌, ◌++◌, length, map, flat_map, Option, None, Some, codes}
 use Rattle.std.specs.List.{list_all}
 use Rattle.sp_lp.specs.Words.{Word, is_name, is_numeral}
 use Rattle.sp_lp.specs.Names.{is_among, distinct}
@@ -117,7 +117,7 @@ has_some (x ∷ xs) = true
 abbrev pub is_row : RowText → Bool
 is_row r = is_name r.name && ((has_some r.terms && is_expression r.terms) && is_numeral r.side)
 
--- what the small grammar asks of a file
+-- what the small grammar asks of a file; the rows' names are distinct, and each variable of a term stands in the line of names
 pub record IsSmallFile (f : File) : Type 0 where
   pub objective : IsTrue (is_expression f.objective)
   pub rows : IsTrue (list_all is_row (rows_of f.rows))

@@ -1,5 +1,5 @@
 -- What a word is by itself.
-use Rattle.std.specs.Prelude.{ℕ, ◌-◌, Bool, false, ◌&&◌, ◌==◌, if◌then◌else◌, List, [], ◌∷◌, length, take, drop, codes, slice_index}
+use Rattle.std.specs.Prelude.{◌-◌, Bool, false, ◌&&◌, ◌==◌, if◌then◌else◌, [], ◌∷◌, length, take, drop, codes, slice_index}
 use Rattle.std.specs.Str.{bytes_eq}
 use Rattle.sp_lp.specs.declared.kinds.Kind.{Kind}
 use Rattle.sp_lp.specs.declared.kinds.Kind.TheVariants.{Maximize, Minimize, Objective, Subject, To, Binaries, End, Plus, Minus, AtMost, Name, Label, Whole, Negative, Other}

@@ -1,10 +1,9 @@
 -- How a file is read: word by word, with a place in the file.
-use Rattle.std.specs.Prelude.{◌≡◌, ◌==◌, ℕ, ◌+◌, ◌-◌, Bool, true, false, ◌&&◌, nat_le, if◌then◌else◌, List, [], ◌∷◌, ◌++◌, length, take, Option, None, Some, option_and_then, Result, Ok, Err, replicate, pos}
+use Rattle.std.specs.Prelude.{◌≡◌, ◌==◌, ℕ, ◌-◌, Bool, true, false, ◌&&◌, nat_le, if◌then◌else◌, List, [], ◌∷◌, ◌++◌, length, take, Option, None, Some, option_and_then, Result, Ok, Err, replicate, pos}
 use Rattle.std.specs.List.{list_all}
 use Rattle.sp_model.specs.declared.parts.ModelParts.{ModelParts}
-use Rattle.sp_model.specs.declared.parts.Row.{Row}
 use Rattle.sp_lp.specs.declared.kinds.Kind.{Kind}
-use Rattle.sp_lp.specs.declared.kinds.Kind.TheVariants.{Maximize, Minimize, Objective, Subject, To, Binaries, End, Plus, Minus, AtMost, Name, Label, Whole, Negative, Other}
+use Rattle.sp_lp.specs.declared.kinds.Kind.TheVariants.{Maximize, Minimize, Objective, Subject, To, Binaries, End, Plus, Minus, AtMost, Name, Label, Whole, Negative}
 use Rattle.sp_lp.specs.declared.places.Item.{Item}
 use Rattle.sp_lp.specs.declared.places.Item.TheVariants.{First, Signed, Numbered, After}
 use Rattle.sp_lp.specs.declared.places.Place.{Place}

@@ -1,5 +1,5 @@
 -- What a small LP file means.
-use Rattle.std.specs.Prelude.{◌≡◌, ℕ, Bool, true, false, not, IsTrue, List, [], ◌∷◌, length, map, replicate, Option, None, Some, ℤ, pos}
+use Rattle.std.specs.Prelude.{◌≡◌, ℕ, Bool, true, false, not, IsTrue, List, [], length, map, replicate, Option, None, Some, pos}
 use Rattle.std.specs.List.{list_all}
 use Rattle.sp_model.specs.declared.parts.ModelParts.{ModelParts}
 use Rattle.sp_model.specs.declared.parts.Row.{Row}

@@ -1,4 +1,4 @@
-ghost use Rattle.std.specs.Prelude.{◌≡◌, ◌≤◌, ◌^◌, ℕ, List, length, IfOk};
+ghost use Rattle.std.specs.Prelude.{◌≡◌, ℕ, List, length, IfOk};
 ghost use Rattle.sp_model.specs.declared.parts.ModelParts.{ModelParts};
 ghost use Rattle.sp_model.specs.Rules.{IsLawful};
 ghost use Rattle.sp_lp.specs.Words.{Word};
@@ -76,7 +76,6 @@ fn model_of(alloc: Global, reader: Reader) -> Result<NamedModel, AllocError>
 ///
 /// `Syntax` comes exactly where the bytes are no such file; `NoMemory` may come at any time.
 pub fn read_lp(alloc: Global, bytes: &[u8]) -> Result<NamedModel, LpRefusal>
-    requires { length bytes.now ≤ 2 ^ 26 }
     ensures found { IfOk result (λ r. Reads bytes.now r.names r.parts) }
     ensures syntax { result ≡ Err LpRefusal.Syntax → (names : List Word) (parts : ModelParts) → ¬ Reads bytes.now names parts }
     ensures lawful { IfOk result (λ r. IsLawful r.parts × (length r.names ≡ length r.parts.lower)) }

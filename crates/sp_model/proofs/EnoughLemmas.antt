@@ -1,25 +1,18 @@
 -- Enough found points stay enough without those above the cut, and the least value of all found points is the optimum.
 use Rattle.std.proofs.Common.{◌≡◌, ◌≢◌, true, List, [], refl, sym, ap, ◌∙◌, subst, ◌↔◌, All, Any, Contains, Option, None, Some, IsNone, IfSome, ℤ, ◌≤ℤ◌, int_le, arith}
-use Rattle.std.proofs.lemmas.Int.{ints}
 use Rattle.std.proofs.lemmas.List.Elements.{All-contains, All-filter, filter_passes, All-weaker}
 use Rattle.std.proofs.lemmas.List.Kept.{AllPairs-filter}
 use Rattle.sp_model.specs.declared.found.Found.{Found}
 use Rattle.sp_model.specs.declared.parts.ModelParts.{ModelParts}
 use Rattle.sp_model.specs.Models.{Feasible, objective, IsOptimum}
 use Rattle.sp_model.specs.Lists.{IsKept, IsFoundEnough, IsFoundAll, AreValued, points_of, found_within}
-use Rattle.sp_model.proofs.PointLemmas.{Contains-map, Contains-map_parts}
+use Rattle.sp_model.proofs.PointLemmas.{le_test, test_le, Contains-map, Contains-map_parts}
 use Rattle.sp_model.proofs.MemberLemmas.{contains_filter}
-
-pub int_le_true : (a b : ℤ) → a ≤ℤ b → int_le a b ≡ true
-int_le_true a b h = grind (arith, ints)
-
-pub le_from_int_le : (a b : ℤ) → int_le a b ≡ true → a ≤ℤ b
-le_from_int_le a b h = grind (arith, ints)
 
 -- those within the cut are within it
 pub all_within : (cut : ℤ) (found : List Found) → All (λ f. f.value ≤ℤ cut) (found_within cut found)
 all_within cut found =
-    All-weaker (λ f. int_le f.value cut ≡ true) (λ f. f.value ≤ℤ cut) (λ f h. le_from_int_le f.value cut h) (found_within cut found)
+    All-weaker (λ f. int_le f.value cut ≡ true) (λ f. f.value ≤ℤ cut) (λ f h. test_le f.value cut h) (found_within cut found)
     (filter_passes (λ f. int_le f.value cut) found)
 
 -- a kept point that was found is found within the cut
@@ -31,7 +24,7 @@ kept_within m cut found valued x kept h =
     let near : source.0.value ≤ℤ cut = subst (λ v. v ≤ℤ cut) (sym value_is) kept.near in
     subst (λ y. Contains (points_of (found_within cut found)) y) source.2
     (Contains-map (λ (f : Found). f.point) (found_within cut found) source.0
-    (contains_filter (λ (f : Found). int_le f.value cut) found source.0 (int_le_true source.0.value cut near) source.1))
+    (contains_filter (λ (f : Found). int_le f.value cut) found source.0 (le_test source.0.value cut near) source.1))
 
 -- enough are enough without those above the cut
 pub enough_within : (m : ModelParts) (cut : ℤ) (found : List Found) → IsFoundEnough m cut found → IsFoundEnough m cut (found_within cut found)

@@ -1,5 +1,5 @@
 -- The walk over all points of a model finds enough for every list.
-use Rattle.std.specs.Prelude.{ℤ, ◌+ℤ◌, ◌*ℤ◌, ◌≤ℤ◌, ◌^◌, unsigned_abs, All, AllPairs, Contains, map, filter}
+use Rattle.std.specs.Prelude.{ℤ, ◌+ℤ◌, ◌*ℤ◌, ◌^◌, unsigned_abs, All, AllPairs, Contains, map}
 use Rattle.std.proofs.Common.{◌≡◌, ◌≢◌, ℕ, ◌+◌, ◌<◌, ◌≤◌, List, [], ◌∷◌, length, get_or, refl, sym, ap, ◌∙◌, subst, arith}
 use Rattle.std.proofs.lemmas.Int.{ints}
 use Rattle.std.proofs.lemmas.List.{get_or-map, length-map}
@@ -8,10 +8,10 @@ use Rattle.std.proofs.lemmas.List.Kept.{IsStrictlySortedBy-filter}
 use Rattle.std.proofs.lemmas.List.Elements.{All-map, All-contains_itself}
 use Rattle.sp_model.specs.declared.found.Found.{Found}
 use Rattle.sp_model.specs.declared.parts.ModelParts.{ModelParts}
-use Rattle.sp_model.specs.Boxes.{Bounds, ranges, points, entry, IsWithin}
+use Rattle.sp_model.specs.Boxes.{ranges, points, entry, IsWithin}
 use Rattle.sp_model.specs.Sums.{Term, sum_at, magnitude}
 use Rattle.sp_model.specs.Models.{Feasible, objective, root_of}
-use Rattle.sp_model.specs.Lists.{lex_cmp, constraints_hold, feasible_points, found_at, found_points, points_of, AreValued, IsFoundAll, IsFoundEnough, IsKept}
+use Rattle.sp_model.specs.Lists.{lex_cmp, constraints_hold, feasible_points, found_at, found_points, points_of, IsFoundAll, IsFoundEnough}
 use Rattle.sp_model.specs.Rules.{IsLawful}
 use Rattle.sp_model.proofs.ModelLemmas.{cost_small}
 use Rattle.sp_model.proofs.WalkLemmas.{contains_feasible}

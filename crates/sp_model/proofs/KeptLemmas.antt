@@ -8,9 +8,8 @@ use Rattle.sp_model.specs.declared.parts.ModelParts.{ModelParts}
 use Rattle.sp_model.specs.Boxes.{lies_in}
 use Rattle.sp_model.specs.Models.{objective, root_of}
 use Rattle.sp_model.specs.Lists.{IsKept, IsSetOf, IsFoundEnough, AreValued, points_of, constraints_hold, is_kept}
-use Rattle.sp_model.proofs.EnoughLemmas.{int_le_true, le_from_int_le}
-use Rattle.sp_model.proofs.PointLemmas.{Contains-map, contains_points, within_iff_lies_in}
-use Rattle.sp_model.proofs.WalkLemmas.{feasible_from_test, test_from_feasible}
+use Rattle.sp_model.proofs.PointLemmas.{le_test, test_le, Contains-map, within_iff_lies_in}
+use Rattle.sp_model.proofs.ModelLemmas.{feasible_from_test, test_from_feasible}
 
 -- the test says whether a point is kept
 pub kept_test : (m : ModelParts) (cut : ℤ) (x : List ℤ) → IsTrue (is_kept m cut x) ↔ IsKept m cut x
@@ -19,13 +18,13 @@ kept_test m cut x = (
       let outer = and_parts (lies_in (root_of m) x && constraints_hold m x) (int_le (objective m x) cut) t in
       let inner = and_parts (lies_in (root_of m) x) (constraints_hold m x) outer.0 in
       record {
-        feasible = feasible_from_test m x ((contains_points (root_of m) x).1 ((within_iff_lies_in (root_of m) x).1 inner.0)) inner.1;
-        near = le_from_int_le (objective m x) cut outer.1;
+        feasible = feasible_from_test m x ((within_iff_lies_in (root_of m) x).1 inner.0) inner.1;
+        near = test_le (objective m x) cut outer.1;
       },
   λ k.
       and_from (lies_in (root_of m) x && constraints_hold m x) (int_le (objective m x) cut)
       (and_from (lies_in (root_of m) x) (constraints_hold m x) ((within_iff_lies_in (root_of m) x).0 k.feasible.within) (test_from_feasible m x k.feasible))
-      (int_le_true (objective m x) cut k.near),
+      (le_test (objective m x) cut k.near),
 )
 
 -- points that differ are of found points that differ

@@ -12,10 +12,9 @@ use Rattle.std.proofs.lemmas.Map.Keys.{sorted_tail}
 use Rattle.sp_model.specs.declared.parts.ModelParts.{ModelParts}
 use Rattle.sp_model.specs.Models.{objective}
 use Rattle.sp_model.specs.Lists.{lex_cmp, point_cmp, IsList, kept, placed, by_objective, list_of}
-use Rattle.sp_model.proofs.EnoughLemmas.{le_from_int_le}
+use Rattle.sp_model.proofs.PointLemmas.{test_le, Contains-cons_cases, Contains-here, Contains-later, Contains-none}
 use Rattle.sp_model.proofs.ListLemmas.{points_total, unique}
 use Rattle.sp_model.proofs.OrderLemmas.{below_all}
-use Rattle.sp_model.proofs.PointLemmas.{Contains-cons_cases, Contains-here, Contains-later, Contains-none}
 use Rattle.sp_model.proofs.RisingLemmas.{sorted_nil, sorted_cons}
 use Rattle.sp_model.proofs.WalkLemmas.{contains_kept, kept_rises}
 
@@ -92,7 +91,7 @@ placed_ascends m x [] first s = sorted_cons (point_cmp m) x [] tt (sorted_nil (p
 placed_ascends m x (y ∷ ys) first s =
     cond_both (int_le (objective m x) (objective m y)) (x ∷ y ∷ ys) (y ∷ placed m x ys) (λ l. IsStrictlySortedBy (point_cmp m) l)
     (λ t.
-    let before : point_cmp m x y ≡ Less = point_before_tied m x y (le_from_int_le (objective m x) (objective m y) t) (first y (Contains-here y ys)) in
+    let before : point_cmp m x y ≡ Less = point_before_tied m x y (test_le (objective m x) (objective m y) t) (first y (Contains-here y ys)) in
     sorted_cons (point_cmp m) x (y ∷ ys)
     (each_after (point_cmp m) x (y ∷ ys) (λ z h. elim (Contains-cons_cases y ys z h) [
       | inl here ↦ subst (λ v. point_cmp m x v ≡ Less) here before

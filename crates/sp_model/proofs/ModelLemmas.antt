@@ -14,11 +14,11 @@ use Rattle.sp_model.specs.Lists.{constraints_hold}
 use Rattle.sp_model.specs.Models.{root_of, row_holds, indicator_holds, set_holds, Feasible}
 use Rattle.sp_model.specs.Sums.{Term, magnitude, AreTermsSafe}
 use Rattle.sp_model.specs.Rules.{AreTermsLawful, AreVariablesLawful, IsRangeLawful, IsRowLawful, IsIndicatorLawful, IsSetLawful, AreLawful, IsFirstBroken, IsLawful, IsFirstFault}
-use Rattle.sp_model.proofs.WithinLemmas.{length-ranges}
+use Rattle.sp_model.proofs.RangeLemmas.{length_ranges}
 use Rattle.sp_model.proofs.SumLemmas.{magnitude-le-width}
 
 pub length-within : (m : ModelParts) (x : List ℤ) → AreVariablesLawful m → IsWithin (root_of m) x → length x ≡ length m.lower
-length-within m x h w = w.long ∙ length-ranges m.lower m.upper h.paired
+length-within m x h w = w.long ∙ length_ranges m.lower m.upper h.paired
 
 pub known_within : (m : ModelParts) (x : List ℤ) (ts : List Term) → AreVariablesLawful m → IsWithin (root_of m) x → AreTermsLawful (length m.lower) ts → All (λ t. t.0 < length x) ts
 known_within m x ts h w l = λ k d i. omega (arith, l.known k d i, length-within m x h w)
@@ -75,7 +75,7 @@ unbroken limit P xs k l f = f.broken (omega (arith, l.few, f.here)) (λ d. l.eac
 pub no_fault : (m : ModelParts) (e : BuildRefusal) → IsLawful m → IsFirstFault m e → e ≡ NoMemory
 no_fault m Variables l f = absurd (f l.variables)
 no_fault m (Bound j) l f =
-    let few : length (root_of m) ≤ 2000 = omega (arith, length-ranges m.lower m.upper l.variables.paired, l.variables.few) in
+    let few : length (root_of m) ≤ 2000 = omega (arith, length_ranges m.lower m.upper l.variables.paired, l.variables.few) in
     absurd (unbroken 2000 IsRangeLawful (root_of m) j record { few = few; each = l.bounds } f.1)
 no_fault m Objective l f = absurd (f.2 l.objective)
 no_fault m (RefusedRow r) l f = absurd (unbroken 10000 (IsRowLawful m) m.rows r l.rows f.1)

@@ -1,50 +1,27 @@
 -- The walk over the points of the bounds, kept and put in order, is the list.
 use Rattle.std.proofs.Common.{◌≡◌, ◌≢◌, ℕ, ◌+◌, ◌<◌, zero-le, true, false, ◌&&◌, List, [], filter, length, get_or, refl, ap, ap₂, ◌∙◌, ◌↔◌, AllPairs, Contains, Ordering, Less, Equal, Greater, is_lt, ℤ, int_le, arith, IsSortedBy, int_cmp, not}
-use Rattle.std.specs.List.{list_all}
 use Rattle.std.specs.List.Sorted.{IsStrictlySortedBy}
 use Rattle.std.specs.Ordering.{ordering_then, ordering_reverse}
-use Rattle.std.proofs.lemmas.Bool.{and_parts, and_from}
 use Rattle.std.proofs.lemmas.Cmp.{int_cmp_total, tied_back}
 use Rattle.std.proofs.lemmas.List.Kept.{IsStrictlySortedBy-filter}
 use Rattle.std.proofs.lemmas.List.Sorted.{Contains-permutation, IsPermutation-sym, ties_stay_sorted, ranks_by}
-use Rattle.std.proofs.lemmas.List.Sums.{AllPass-from_list_all, list_all-from_AllPass}
 use Rattle.std.proofs.lemmas.Map.Keys.{IsDistinct-from_sorted, Less-from_sorted, sorted_from_all_adjacent}
 use Rattle.sp_model.specs.declared.parts.ModelParts.{ModelParts}
 use Rattle.sp_model.specs.Boxes.{points}
-use Rattle.sp_model.specs.Models.{Feasible, objective, root_of, row_holds, indicator_holds, set_holds}
+use Rattle.sp_model.specs.Models.{Feasible, objective, root_of}
 use Rattle.sp_model.specs.Lists.{lex_cmp, point_cmp, IsKept, IsList, IsSortedWalk, constraints_hold, feasible_points, kept}
-use Rattle.sp_model.proofs.EnoughLemmas.{int_le_true, le_from_int_le}
+use Rattle.sp_model.proofs.PointLemmas.{le_test, test_le, contains_points}
 use Rattle.sp_model.proofs.ListLemmas.{lex_total, lex_exact, points_total, once_permuted}
 use Rattle.sp_model.proofs.MemberLemmas.{contains_filter, contains_before_filter, passes_filter, pairs_from_distinct}
 use Rattle.sp_model.proofs.OrderLemmas.{less_from}
-use Rattle.sp_model.proofs.PointLemmas.{contains_points}
+use Rattle.sp_model.proofs.ModelLemmas.{feasible_from_test, test_from_feasible}
 use Rattle.sp_model.proofs.RisingLemmas.{points_rise}
-
--- a point of the bounds is feasible where each constraint holds as a test
-pub feasible_from_test : (m : ModelParts) (x : List ℤ) → Contains (points (root_of m)) x → constraints_hold m x ≡ true → Feasible m x
-feasible_from_test m x within t =
-    let outer = and_parts (list_all (λ row. row_holds row x) m.rows && list_all (λ i. indicator_holds i x) m.indicators) (list_all (λ set. set_holds set x) m.sos) t in
-    let inner = and_parts (list_all (λ row. row_holds row x) m.rows) (list_all (λ i. indicator_holds i x) m.indicators) outer.0 in
-    record {
-      within = (contains_points (root_of m) x).0 within;
-      rows = AllPass-from_list_all (λ row. row_holds row x) m.rows inner.0;
-      indicators = AllPass-from_list_all (λ i. indicator_holds i x) m.indicators inner.1;
-      sets = AllPass-from_list_all (λ set. set_holds set x) m.sos outer.1;
-    }
-
-pub test_from_feasible : (m : ModelParts) (x : List ℤ) → Feasible m x → constraints_hold m x ≡ true
-test_from_feasible m x f =
-    and_from (list_all (λ row. row_holds row x) m.rows && list_all (λ i. indicator_holds i x) m.indicators) (list_all (λ set. set_holds set x) m.sos)
-    (and_from (list_all (λ row. row_holds row x) m.rows) (list_all (λ i. indicator_holds i x) m.indicators)
-    (list_all-from_AllPass (λ row. row_holds row x) m.rows f.rows)
-    (list_all-from_AllPass (λ i. indicator_holds i x) m.indicators f.indicators))
-    (list_all-from_AllPass (λ set. set_holds set x) m.sos f.sets)
 
 -- the points of the bounds that pass each constraint are the feasible ones
 pub contains_feasible : (m : ModelParts) (x : List ℤ) → Contains (feasible_points m) x ↔ Feasible m x
 contains_feasible m x = (
   λ h.
-      feasible_from_test m x (contains_before_filter (constraints_hold m) (points (root_of m)) x h) (passes_filter (constraints_hold m) (points (root_of m)) x h),
+      feasible_from_test m x ((contains_points (root_of m) x).0 (contains_before_filter (constraints_hold m) (points (root_of m)) x h)) (passes_filter (constraints_hold m) (points (root_of m)) x h),
   λ feasible.
       contains_filter (constraints_hold m) (points (root_of m)) x (test_from_feasible m x feasible) ((contains_points (root_of m) x).1 feasible.within),
 )
@@ -55,10 +32,10 @@ contains_kept m cut x = (
   λ h.
       record {
         feasible = (contains_feasible m x).0 (contains_before_filter (λ y. int_le (objective m y) cut) (feasible_points m) x h);
-        near = le_from_int_le (objective m x) cut (passes_filter (λ y. int_le (objective m y) cut) (feasible_points m) x h);
+        near = test_le (objective m x) cut (passes_filter (λ y. int_le (objective m y) cut) (feasible_points m) x h);
       },
   λ k.
-      contains_filter (λ y. int_le (objective m y) cut) (feasible_points m) x (int_le_true (objective m x) cut k.near) ((contains_feasible m x).1 k.feasible),
+      contains_filter (λ y. int_le (objective m y) cut) (feasible_points m) x (le_test (objective m x) cut k.near) ((contains_feasible m x).1 k.feasible),
 )
 
 -- and in lexicographic order

@@ -1,11 +1,7 @@
 -- What a box of two lists of bounds has at a variable.
-use Rattle.std.proofs.Common.{◌≡◌, ℕ, zero, suc, ◌+◌, ◌<◌, ◌≤◌, List, [], ◌∷◌, length, ℤ, refl, sym, ap, ◌∙◌, below_more, arith}
+use Rattle.std.proofs.Common.{◌≡◌, ℕ, zero, suc, ◌+◌, ◌<◌, ◌≤◌, List, [], ◌∷◌, length, ℤ, refl, sym, ◌∙◌, below_more, arith}
+use Rattle.sp_model.proofs.RangeLemmas.{length_ranges}
 use Rattle.sp_model.specs.Boxes.{Bounds, ranges, range_at, entry, IsBetween, IsWithin}
-
-pub length-ranges : (ls us : List ℤ) → length us ≡ length ls → length (ranges ls us) ≡ length ls
-length-ranges [] us e = refl
-length-ranges (l ∷ ls) [] e = e
-length-ranges (l ∷ ls) (u ∷ us) e = ap suc (length-ranges ls us (omega arith))
 
 pub range_at-ranges : (ls us : List ℤ) → length us ≡ length ls → (j : ℕ) → range_at (ranges ls us) j ≡ (entry ls j, entry us j)
 range_at-ranges [] [] e zero = refl
@@ -27,12 +23,12 @@ more_between b x n h p = record { each = below_more (λ j. IsBetween (range_at b
 
 pub within_from_between : (ls us x : List ℤ) (n : ℕ) → length us ≡ length ls → length x ≡ length ls → length x ≤ n → AreBetween (ranges ls us) x n → IsWithin (ranges ls us) x
 within_from_between ls us x n e l m h = record {
-  long = l ∙ sym (length-ranges ls us e);
-  each = λ j k. h.each j (omega (arith, length-ranges ls us e));
+  long = l ∙ sym (length_ranges ls us e);
+  each = λ j k. h.each j (omega (arith, length_ranges ls us e));
 }
 
 pub long_within : (ls us x : List ℤ) → length us ≡ length ls → IsWithin (ranges ls us) x → length x ≡ length ls
-long_within ls us x e h = h.long ∙ length-ranges ls us e
+long_within ls us x e h = h.long ∙ length_ranges ls us e
 
 pub between_within : (ls us x : List ℤ) (j : ℕ) → length us ≡ length ls → j < length ls → IsWithin (ranges ls us) x → IsBetween (range_at (ranges ls us) j) (entry x j)
-between_within ls us x j e l h = h.each j (omega (arith, length-ranges ls us e))
+between_within ls us x j e l h = h.each j (omega (arith, length_ranges ls us e))

@@ -1,14 +1,13 @@
 -- A run whose reply can be printed, and the reply's text.
-use Rattle.std.specs.Prelude.{ℤ, map, flat_map, All, IfSome, ◌^◌, unsigned_abs}
-use Rattle.std.proofs.Common.{◌≡◌, ℕ, ◌+◌, ◌<◌, ◌≤◌, List, [], ◌∷◌, ◌++◌, length, get_or, Option, None, Some, refl, sym, ap, ◌∙◌, subst, arith}
-use Rattle.std.proofs.lemmas.List.{append-nil, length-map}
+use Rattle.std.specs.Prelude.{map}
+use Rattle.std.proofs.Common.{◌≡◌, ℕ, List, [], ◌∷◌, ◌++◌, length, refl, sym, ap, ◌∙◌}
+use Rattle.std.proofs.lemmas.List.{length-map}
 use Rattle.sp_model.specs.declared.found.Found.{Found}
 use Rattle.sp_model.specs.declared.parts.ModelParts.{ModelParts}
 use Rattle.sp_model.specs.Models.{root_of}
 use Rattle.sp_model.specs.Lists.{points_of}
 use Rattle.sp_shell.specs.declared.journals.Entry.{Entry}
 use Rattle.sp_shell.specs.declared.journals.Entry.TheVariants as entry
-use Rattle.sp_shell.specs.declared.preparing.Ready.{Ready}
 use Rattle.sp_shell.specs.declared.solving.Solved.{Solved}
 use Rattle.sp_shell.specs.Solving.{IsSolved}
 use Rattle.sp_shell.specs.Ready.{IsReady}

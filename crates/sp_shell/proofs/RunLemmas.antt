@@ -1,18 +1,17 @@
 -- What went out and was noted when a run ends.
-use Rattle.std.specs.Prelude.{ℤ, map, flat_map, filter, count_by, All, IfSome, IsTrue, Bool, true, false, ◌⊎◌, ◌^◌, unsigned_abs, Result, Ok, Err}
+use Rattle.std.specs.Prelude.{ℤ, flat_map, filter, count_by, All, Bool, true, false, Result, Ok, Err}
 use Rattle.std.specs.List.{list_all, AllByRecursion}
-use Rattle.std.proofs.Common.{◌≡◌, ℕ, ◌+◌, ◌<◌, ◌≤◌, List, [], ◌∷◌, ◌++◌, length, get_or, Option, None, Some, refl, sym, ap, ◌∙◌, subst, inl, inr, arith}
+use Rattle.std.proofs.Common.{◌≡◌, ℕ, ◌≤◌, List, [], ◌∷◌, ◌++◌, length, Option, None, Some, refl, sym, ap, ◌∙◌, subst, inl, inr, arith}
 use Rattle.std.proofs.lemmas.List.Elements.{All-from_recursion, recursion_from_All}
 use Rattle.std.proofs.lemmas.List.Sums.{length-filter}
-use Rattle.sp_base.specs.Told.{append, AppendsPart}
-use Rattle.sp_base.specs.Counts.{Rose, RoseBy}
-use Rattle.sp_base.specs.Shelf.{Files, Fetches}
+use Rattle.sp_base.specs.Told.{append}
+use Rattle.sp_base.specs.Counts.{RoseBy}
+use Rattle.sp_base.specs.Shelf.{Files}
 use Rattle.sp_base.specs.declared.sinks.SinkEnd.{SinkEnd}
 use Rattle.sp_base.specs.declared.sinks.SinkEnd.TheVariants as sunk
 use Rattle.sp_base.specs.declared.statuses.Status.{Status}
 use Rattle.sp_base.specs.declared.statuses.Status.TheVariants as status
 use Rattle.sp_model.specs.declared.parts.ModelParts.{ModelParts}
-use Rattle.sp_model.specs.Boxes.{IsWithin}
 use Rattle.sp_model.specs.Models.{root_of, Feasible}
 use Rattle.sp_lp.specs.Reads.{Reads}
 use Rattle.sp_shell.specs.declared.journals.Entry.{Entry}
@@ -27,9 +26,9 @@ use Rattle.sp_shell.specs.declared.wordings.Wording.TheVariants as wording
 use Rattle.sp_shell.specs.Wording.{spelling}
 use Rattle.sp_shell.specs.Outputs.{Sends}
 use Rattle.sp_shell.specs.Endings.{status_after, Answers, IsWhole}
-use Rattle.sp_shell.specs.Replies.{done_text, done_head, entry_line, solution_line, stopped_text, reply_text, IsPrintable}
-use Rattle.sp_shell.specs.Runs.{AreTrueOf, IsTrueOf, is_absence, is_overrun, is_fault, Follows, IsFileRun, IsLegal, IsRun, IsSyntax, IsUsage, ListsAll, Outcome, PutsAll, PutsNothing, PutsPart, Refuses, Replies, RunText, run_entries}
-use Rattle.sp_shell.specs.Solving.{EndsWith, HasList}
+use Rattle.sp_shell.specs.Replies.{done_head, entry_line, solution_line, reply_text, IsPrintable}
+use Rattle.sp_shell.specs.Runs.{AreTrueOf, IsTrueOf, is_absence, is_overrun, is_fault, Follows, IsFileRun, IsUsage, Outcome, Refuses, Replies, RunText, run_entries}
+use Rattle.sp_shell.specs.Solving.{EndsWith}
 use Rattle.sp_shell.specs.Ready.{IsReady, Notes, is_own}
 
 -- a status that comes with a whole text, and what went out

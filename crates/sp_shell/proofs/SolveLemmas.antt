@@ -1,17 +1,16 @@
 -- What a run of a model gives.
-use Rattle.std.specs.Prelude.{ℤ, ◌≤ℤ◌, ◌^◌, ◌*◌, unsigned_abs, IfSome, All, AllPairs, Contains}
-use Rattle.std.proofs.Common.{◌≡◌, ◌≢◌, ℕ, zero, suc, ◌+◌, ◌<◌, ◌≤◌, List, [], ◌∷◌, length, get_or, Option, None, Some, refl, sym, ap, ◌∙◌, subst, arith}
+use Rattle.std.specs.Prelude.{ℤ, ◌≤ℤ◌, ◌^◌, ◌*◌, unsigned_abs, IfSome}
+use Rattle.std.proofs.Common.{◌≡◌, ℕ, zero, suc, ◌+◌, ◌<◌, ◌≤◌, List, [], length, get_or, None, Some, sym, ap, ◌∙◌, subst, arith}
 use Rattle.std.proofs.lemmas.List.Elements.{All-contains_itself}
 use Rattle.std.proofs.lemmas.Map.Keys.{IsDistinct-from_sorted}
-use Rattle.sp_model.specs.declared.found.Found.{Found}
 use Rattle.sp_model.specs.declared.gaps.Gap.{Gap}
 use Rattle.sp_model.specs.declared.gaps.Gap.TheVariants as gap
 use Rattle.sp_model.specs.declared.gaps.Gaps.{Gaps}
 use Rattle.sp_model.specs.declared.parts.ModelParts.{ModelParts}
 use Rattle.sp_model.specs.Boxes.{room}
 use Rattle.sp_model.specs.Cuts.{cut_of}
-use Rattle.sp_model.specs.Models.{Feasible, IsLeast, IsOptimum, objective}
-use Rattle.sp_model.specs.Lists.{point_cmp, points_of, IsFoundList, IsKept, IsList, IsListAt}
+use Rattle.sp_model.specs.Models.{IsLeast, IsOptimum, objective}
+use Rattle.sp_model.specs.Lists.{point_cmp, points_of, IsFoundList, IsKept, IsList}
 use Rattle.sp_model.specs.Rules.{IsLawful}
 use Rattle.sp_model.proofs.AnswerLemmas.{one_optimum}
 use Rattle.sp_model.proofs.FoundLemmas.{small_objective}

@@ -1,7 +1,7 @@
 -- One step of the walk over all points.
-use Rattle.std.specs.Prelude.{ℤ, pos, negsuc, ◌⊎◌, ◌^◌, unsigned_abs, ◌+ℤ◌, ◌-ℤ◌, ◌≤ℤ◌, ◌<ℤ◌, flat_map, filter, map}
+use Rattle.std.specs.Prelude.{ℤ, pos, negsuc, ◌⊎◌, ◌^◌, unsigned_abs, ◌+ℤ◌, ◌-ℤ◌, ◌≤ℤ◌, flat_map, filter, map}
 use Rattle.std.specs.Int.{w128}
-use Rattle.std.proofs.Common.{to_z, of_z, ◌≡◌, ℕ, ◌-◌, zero, suc, ◌+◌, ◌<◌, ◌≤◌, Bool, true, false, List, [], ◌∷◌, ◌++◌, length, get_or, take, drop, refl, sym, ap, subst, ◌∙◌, inl, inr, arith, add-one, length-append}
+use Rattle.std.proofs.Common.{to_z, of_z, ◌≡◌, ℕ, ◌-◌, suc, ◌+◌, ◌<◌, ◌≤◌, true, false, List, [], ◌∷◌, ◌++◌, length, take, drop, refl, sym, ap, subst, ◌∙◌, inl, inr, arith, add-one, length-append}
 use Rattle.std.proofs.Math.Seq.{drop-cons, drop-length, get_or-append_seam, take-append_seam}
 use Rattle.std.proofs.Math.ListN.{get_or-append}
 use Rattle.std.proofs.lemmas.List.{append_assoc, append-nil, map-append}

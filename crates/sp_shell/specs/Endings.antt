@@ -1,5 +1,5 @@
 -- How the parts of a run end.
-use Rattle.std.specs.Prelude.{◌≡◌, ℕ, List, [], ◌∷◌, Option, Result, Ok, Err}
+use Rattle.std.specs.Prelude.{◌≡◌, ℕ, List, Option, Result, Ok, Err}
 use Rattle.sp_base.specs.declared.sinks.SinkEnd.{SinkEnd}
 use Rattle.sp_base.specs.declared.sinks.SinkEnd.TheVariants as sunk
 use Rattle.sp_base.specs.declared.statuses.Status.{Status}

@@ -1,5 +1,5 @@
 -- A run of a model whose reply can be printed.
-use Rattle.std.specs.Prelude.{◌≡◌, ℕ, ◌^◌, ◌≤◌, List, [], ◌∷◌, length, Bool, true, false, IsTrue, IfSome, unsigned_abs, ℤ}
+use Rattle.std.specs.Prelude.{◌≡◌, ℕ, ◌^◌, ◌≤◌, List, ◌∷◌, length, Bool, true, false, IsTrue, IfSome, unsigned_abs, ℤ}
 use Rattle.std.specs.List.{list_all}
 use Rattle.sp_model.specs.declared.parts.ModelParts.{ModelParts}
 use Rattle.sp_model.specs.Models.{root_of}

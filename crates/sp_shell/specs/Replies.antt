@@ -12,7 +12,8 @@ use Rattle.sp_shell.specs.declared.journals.RunEnd.TheVariants as end
 use Rattle.sp_shell.specs.declared.wordings.Wording.TheVariants as wording
 use Rattle.sp_shell.specs.Wording.{spelling}
 
--- an objective as the user reads it: negated back where the user maximises
+-- an objective as the user reads it: negated back where the user maximises. The models of the small grammar have scale 0,
+-- so the whole number is what is printed.
 abbrev pub in_user_direction : Bool → ℤ → ℤ
 in_user_direction maximize v = cond maximize (neg_ℤ v) v
 

@@ -1,5 +1,5 @@
 -- What a run is asked, notes, prints and answers.
-use Rattle.std.specs.Prelude.{◌≡◌, ◌≢◌, ℕ, ◌+◌, ◌*◌, ◌^◌, ◌<◌, ◌≤◌, max, ◌⊎◌, ◌==◌, Bool, true, false, if◌then◌else◌, List, [], ◌∷◌, ◌++◌, length, map, All, AllPairs, Option, None, Some, IfSome, ℤ, ◌≤ℤ◌}
+use Rattle.std.specs.Prelude.{◌≡◌, ◌≢◌, ℕ, ◌+◌, ◌*◌, ◌^◌, ◌<◌, ◌≤◌, ◌⊎◌, ◌==◌, Bool, true, false, if◌then◌else◌, List, [], ◌∷◌, ◌++◌, map, All, AllPairs, Option, None, Some, ℤ, ◌≤ℤ◌}
 use Rattle.std.specs.List.{AllByRecursion}
 use Rattle.sp_base.specs.Told.{append, AppendsPart}
 use Rattle.sp_base.specs.Shelf.{Files, Fetches}
@@ -19,7 +19,6 @@ use Rattle.sp_shell.specs.declared.journals.Entry.{Entry}
 use Rattle.sp_shell.specs.declared.journals.Entry.TheVariants as entry
 use Rattle.sp_shell.specs.declared.journals.FetchNote.{FetchNote}
 use Rattle.sp_shell.specs.declared.journals.FetchNote.TheVariants as note
-use Rattle.sp_shell.specs.declared.journals.StoreNote.{StoreNote}
 use Rattle.sp_shell.specs.declared.journals.StoreNote.TheVariants as stored
 use Rattle.sp_shell.specs.declared.journals.RunEnd.{RunEnd}
 use Rattle.sp_shell.specs.declared.journals.RunEnd.TheVariants as end

@@ -1,6 +1,5 @@
 -- What a run of a model gives.
-use Rattle.std.specs.Prelude.{ℕ, ◌^◌, ◌≤◌, List, Option, IfSome, ℤ, unsigned_abs}
-use Rattle.sp_model.specs.declared.found.Found.{Found}
+use Rattle.std.specs.Prelude.{◌^◌, ◌≤◌, List, Option, IfSome, ℤ, unsigned_abs}
 use Rattle.sp_model.specs.declared.parts.ModelParts.{ModelParts}
 use Rattle.sp_model.specs.Models.{IsOptimum}
 use Rattle.sp_model.specs.Lists.{IsListAt, points_of}

@@ -282,6 +282,7 @@ pub fn run<S: Source, F: Shelf, K: Sink>(
     // nothing else changes
     ensures files { F.files shelf.new ≡ F.files shelf.old }
     ensures left { S.left source.new ≡ S.left source.old }
+    ensures source_faults { S.faults source.new ≡ S.faults source.old }
 {
     let _ = source;
     match named_file(words.as_slice()) {

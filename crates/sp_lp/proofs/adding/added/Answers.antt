@@ -1,6 +1,6 @@
-use Rattle.std.proofs.Common.{◌≡◌, List, ◌∙◌, ap, pos}
+use Rattle.std.proofs.Common.{◌≡◌, List, ◌∙◌, pos}
 use Rattle.sp_model.specs.Sums.{Term}
-use Rattle.sp_lp.specs.Added.{added, turned}
+use Rattle.sp_lp.specs.Added.{added}
 use Rattle.sp_lp.specs.Combined.{combined}
 use Rattle.sp_lp.proofs.AddedLaws.{combined-added, added-permuted}
 use Rattle.sp_lp.proofs.adding.added.Goals as goal

@@ -1,4 +1,4 @@
-use Rattle.std.proofs.Common.{◌≡◌, ℕ, ◌*◌, ◌^◌, ◌≤◌, List, ◌++◌, drop, pos}
+use Rattle.std.proofs.Common.{◌≡◌, ◌*◌, ◌^◌, ◌≤◌, ◌++◌, drop, pos}
 use Rattle.std.specs.Prelude.{unsigned_abs}
 use Rattle.sp_lp.specs.Added.{turned}
 use Rattle.sp_lp.specs.Combined.{combined}

@@ -1,4 +1,4 @@
-use Rattle.std.proofs.Common.{◌∙◌, ap}
+use Rattle.std.proofs.Common.{◌∙◌}
 use Rattle.sp_shell.specs.declared.journals.Entry.TheVariants as entry
 use Rattle.sp_shell.specs.declared.journals.FetchNote.TheVariants as note
 use Rattle.sp_shell.proofs.RunLemmas.{first_noted, ready_notes, printable, run_ends}

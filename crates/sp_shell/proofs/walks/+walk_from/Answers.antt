@@ -1,4 +1,3 @@
-use Rattle.std.specs.Prelude.{ℤ, pos, ◌+ℤ◌}
 use Rattle.std.proofs.Common.{◌≡◌, ◌+◌, ◌<◌, ◌≤◌, ◌++◌, length, refl, sym, ap, ◌∙◌, arith, length-append}
 use Rattle.sp_model.specs.Boxes.{range_at, width_of}
 use Rattle.sp_shell.proofs.StepLemmas.{front_again, front_step, pushed, walk_advances, walk_begins, walk_ends, width_at}

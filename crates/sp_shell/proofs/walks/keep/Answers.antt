@@ -1,4 +1,4 @@
-use Rattle.std.proofs.Common.{◌≡◌, ◌∷◌, [], ◌++◌, refl, ap, sym, ◌∙◌, true, false}
+use Rattle.std.proofs.Common.{◌≡◌, ◌∷◌, [], ◌++◌, ap, sym, ◌∙◌, true, false}
 use Rattle.std.proofs.lemmas.List.{append-nil}
 use Rattle.sp_model.specs.Lists.{constraints_hold}
 use Rattle.sp_shell.proofs.StepLemmas.{found_same, same_in_128, whole_kept, whole_left_out}

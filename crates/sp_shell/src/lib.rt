@@ -6,6 +6,8 @@ mod outputs;
 mod preparing;
 mod printing;
 mod replying;
+#[cfg(test)]
+mod run_tests;
 mod runs;
 mod solving;
 mod walks;

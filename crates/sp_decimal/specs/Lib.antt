@@ -1,0 +1,3 @@
+pub mod DecimalFraction
+pub mod Grammar
+pub mod Numerals

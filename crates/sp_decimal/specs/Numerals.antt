@@ -1,0 +1,42 @@
+-- What a numeral is read as.
+use Rattle.std.specs.Prelude.{◌≡◌, ◌≢◌, ℕ, ◌*◌, ◌/◌, ◌%◌, ◌^◌, ◌<◌, ◌≤◌, Bool, ◌==◌, nat_lt, nat_le, if◌then◌else◌, List, Option, None, Some, Result, Ok, Err, find, ℤ, pos, neg_ℤ, unsigned_abs}
+use Rattle.std.specs.List.{range_with_len}
+use Rattle.sp_decimal.specs.DecimalFraction.{DecimalFraction}
+use Rattle.sp_decimal.specs.declared.numerals.Numeral.{Numeral}
+use Rattle.sp_decimal.specs.declared.numerals.Numeral.TheVariants.{Exact, Huge}
+use Rattle.sp_decimal.specs.declared.numerals.NumeralFault.{NumeralFault}
+use Rattle.sp_decimal.specs.declared.numerals.NumeralFault.TheVariants.{NotNumeral, Wide}
+use Rattle.sp_decimal.specs.Grammar.{has_minus, unsigned, is_infinity, is_plain_numeral, top, bottom}
+
+-- the number with the sign
+abbrev pub signed : Bool → ℕ → ℤ
+signed negative n = if negative then neg_ℤ (pos n) else pos n
+
+-- the least number of decimal places with which the fraction can be written, at most thirty
+abbrev pub least_places : ℕ → ℕ → Option ℕ
+least_places top bottom = find (λ s. top * 10 ^ s % bottom == 0) (range_with_len 0 31)
+
+-- the fraction with so many decimal places, where it then has at most thirty digits
+abbrev pub with_places : Bool → ℕ → ℕ → Option ℕ → Result Numeral NumeralFault
+with_places negative top bottom None = Err Wide
+with_places negative top bottom (Some s) =
+    if nat_lt (top * 10 ^ s / bottom) (10 ^ 30) then Ok (Exact (record { p = signed negative (top * 10 ^ s / bottom); s = s })) else Err Wide
+
+-- a fraction with its sign: huge from 10^30 on, else exact in the fewest places, else wide
+unfoldable pub fraction_numeral : Bool → ℕ → ℕ → Result Numeral NumeralFault
+fraction_numeral negative top bottom =
+    if nat_le (10 ^ 30 * bottom) top then Ok (Huge negative) else with_places negative top bottom (least_places top bottom)
+
+-- a text: an infinity with its sign is huge, a numeral with its sign is what its value is, anything else is no numeral
+unfoldable pub numeral : List ℕ → Result Numeral NumeralFault
+numeral text =
+    if is_infinity (unsigned text) then Ok (Huge (has_minus text)) else (
+    if is_plain_numeral (unsigned text) then fraction_numeral (has_minus text) (top (unsigned text)) (bottom (unsigned text)) else Err NotNumeral)
+
+-- the decimal is the fraction with its sign, in the fewest places
+pub record IsFraction (negative : Bool) (top bottom : ℕ) (d : DecimalFraction) : Type 0 where
+  pub equal : unsigned_abs d.p * bottom ≡ top * 10 ^ d.s
+  pub sign : d.p ≡ signed negative (unsigned_abs d.p)
+  pub small : unsigned_abs d.p < 10 ^ 30
+  pub places : d.s ≤ 30
+  pub fewest : (s : ℕ) → s < d.s → (n : ℕ) → n * bottom ≢ top * 10 ^ s

@@ -1,0 +1,8 @@
+//! Exact decimals: the value of a numeral's text, and the text of a value.
+#![tactic(auto)]
+
+mod decimals;
+mod numerals;
+
+pub use decimals::Decimal;
+pub use numerals::{Numeral, NumeralFault};

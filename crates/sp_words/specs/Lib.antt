@@ -1,0 +1,5 @@
+pub mod Entries
+pub mod Kept
+pub mod Rows
+pub mod Spellings
+pub mod Words

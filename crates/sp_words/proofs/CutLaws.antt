@@ -1,6 +1,6 @@
 -- A text that is cut from the left: what is left of it, and one piece more.
-use Rattle.std.proofs.Common.{◌≡◌, ℕ, ◌+◌, ◌-◌, ◌<◌, ◌≤◌, ◌≢◌, Bool, true, false, cond, not, List, [], ◌∷◌, ◌++◌, length, take, drop, map, get_or, set, slice_range, nat_le, refl, sym, ap, ap₂, ◌∙◌, ◌==◌, inl, inr, arith, length-drop}
-use Rattle.std.specs.List.{All, zip, slice_split, position_or_len, prefix_len}
+use Rattle.std.proofs.Common.{◌≡◌, ℕ, ◌+◌, ◌-◌, ◌<◌, ◌≤◌, ◌≢◌, cond, not, List, [], ◌∷◌, ◌++◌, length, take, drop, get_or, set, slice_range, nat_le, refl, sym, ap, ap₂, ◌∙◌, inl, inr, arith, length-drop}
+use Rattle.std.specs.List.{All, zip, slice_split, position_or_len}
 use Rattle.std.proofs.lemmas.List.{drop-drop, take_all, take_more_set, drop_more, map-append, append_assoc, append-nil, length-set}
 use Rattle.std.proofs.lemmas.List.Elements.{All-nil, All-push}
 use Rattle.std.proofs.lemmas.List.Splits.{slice_split_first, slice_split_none}

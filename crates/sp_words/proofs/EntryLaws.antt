@@ -1,12 +1,11 @@
 -- The rows of entries, one entry after the other.
-use Rattle.std.proofs.Common.{◌≡◌, ℕ, ◌+◌, ◌-◌, ◌<◌, Bool, true, false, not, ◌&&◌, List, [], ◌∷◌, length, get_or, take, drop, map, slice_range, Option, Some, None, is_some, cond, sym, ap, ◌∙◌}
-use Rattle.std.specs.List.{list_any}
+use Rattle.std.proofs.Common.{◌≡◌, ℕ, ◌+◌, ◌-◌, ◌<◌, Bool, true, false, not, ◌&&◌, List, length, get_or, take, drop, map, slice_range, Option, Some, is_some, sym, ap, ◌∙◌}
 use Rattle.std.specs.Char.{to_ascii_lowercase}
 use Rattle.std.proofs.lemmas.List.{at_drop_more, take_rest}
 use Rattle.std.proofs.lemmas.Bool.{cond-true, cond-false, and_left, and_right, not_from_true}
 use Rattle.sp_words.specs.Spellings.{same_word, is_empty_word, are_keywords}
 use Rattle.sp_words.specs.Rows.{words_of, code_of}
-use Rattle.sp_words.specs.Entries.{rows_of, row_at}
+use Rattle.sp_words.specs.Entries.{rows_of}
 use Rattle.sp_words.specs.declared.entries.Entry.{Entry}
 use Rattle.sp_words.proofs.WordLaws.{same_word-true, same_word-false}
 use Rattle.sp_words.proofs.RowLaws.{is_some-code_of}

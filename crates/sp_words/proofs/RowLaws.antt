@@ -1,21 +1,18 @@
 -- The code that a word stands for among some rows.
-use Rattle.std.proofs.Common.{◌≡◌, ◌≢◌, ℕ, zero, suc, ◌<◌, ◌+◌, Bool, true, false, cond, not, ◌&&◌, List, [], ◌∷◌, length, get_or, Option, Some, None, is_some, ◌↔◌, refl, sym, ap, ◌∙◌, subst, inl, inr, arith, ◌||◌}
-use Rattle.std.specs.List.{All, AllPairs, Contains, list_any}
-use Rattle.std.proofs.lemmas.Bool.{true≢false, cases_Bool, and_parts, not-true, cond-true, cond-false, both_ways}
+use Rattle.std.proofs.Common.{◌≡◌, ℕ, zero, suc, ◌<◌, Bool, true, false, cond, List, [], ◌∷◌, length, get_or, Option, Some, None, is_some, ◌↔◌, refl, sym, ap, ◌∙◌, inl, inr, arith, ◌||◌}
+use Rattle.std.specs.List.{All, AllPairs, list_any}
+use Rattle.std.proofs.lemmas.Bool.{true≢false, cases_Bool, cond-true, cond-false}
 use Rattle.std.proofs.lemmas.List.Elements.{All-nil, All-cons, All-tail}
-use Rattle.std.proofs.lemmas.List.Kept.{AllPairs-cons}
-use Rattle.sp_words.specs.Spellings.{same_word, is_empty_word, are_keywords}
-use Rattle.sp_words.specs.Rows.{Row, words_of, code_of, IsCodeFor, IsTable}
+use Rattle.std.proofs.lemmas.List.{length-map, get_or-map}
+use Rattle.sp_words.specs.Spellings.{same_word}
+use Rattle.sp_words.specs.Rows.{Row, words_of, code_of, IsCodeFor}
 use Rattle.sp_words.proofs.WordLaws.{same_word_parts}
 
 abbrev pub Other : List ℕ → Row → Type 0
 Other word row = same_word word row.0 ≡ false
 
-abbrev pub Apart : Row → Row → Type 0
-Apart a b = same_word a.0 b.0 ≡ false
-
-abbrev pub Filled : Row → Type 0
-Filled row = row.0 ≢ []
+abbrev pub Apart : List ℕ → List ℕ → Type 0
+Apart a b = same_word a b ≡ false
 
 pub is_some-code_of : (word : List ℕ) (rows : List Row) → is_some (code_of word rows) ≡ list_any (same_word word) (words_of rows)
 is_some-code_of word [] = refl
@@ -59,31 +56,20 @@ row_of_code word (row ∷ rows) code e =
     ]
 
 -- where no two rows are the same word, a row that is the word has the code that is found
-code_at : (word : List ℕ) (rows : List Row) (spelling : List ℕ) (code k : ℕ) → AllPairs Apart rows → k < length rows → get_or rows k (spelling, code) ≡ (spelling, code) → same_word word spelling ≡ true → code_of word rows ≡ Some code
+code_at : (word : List ℕ) (rows : List Row) (spelling : List ℕ) (code k : ℕ) → AllPairs Apart (words_of rows) → k < length rows → get_or rows k (spelling, code) ≡ (spelling, code) → same_word word spelling ≡ true → code_of word rows ≡ Some code
 code_at word [] spelling code k apart within at same = absurd (omega arith)
 code_at word (row ∷ rows) spelling code zero apart within at same =
     let first : same_word word row.0 ≡ true = ap (λ (r : Row). same_word word r.0) at ∙ same in
     cond-true (same_word word row.0) _ _ first ∙ ap (λ (r : Row). Some r.1) at
 code_at word (row ∷ rows) spelling code (suc k) apart within at same =
-    let differ : same_word row.0 (get_or rows k (spelling, code)).0 ≡ false = apart 0 (suc k) (spelling, code) (omega arith) within in
-    let differ' : same_word row.0 spelling ≡ false = sym (ap (λ (r : Row). same_word row.0 r.0) at) ∙ differ in
-    cond-false (same_word word row.0) _ _ (same_word_parts word row.0 spelling differ' same)
+    let long : length (words_of rows) ≡ length rows = length-map rows (λ (r : Row). r.0) in
+    let there : get_or (words_of rows) k spelling ≡ spelling =
+    get_or-map (λ (r : Row). r.0) rows k (spelling, code) spelling (omega arith) ∙ ap (λ (r : Row). r.0) at in
+    let differ : same_word row.0 spelling ≡ false =
+    sym (ap (same_word row.0) there) ∙ apart 0 (suc k) spelling (omega arith) (omega arith) in
+    cond-false (same_word word row.0) _ _ (same_word_parts word row.0 spelling differ same)
     ∙ code_at word rows spelling code k (λ i j d p q. apart (suc i) (suc j) d (omega arith) (omega arith)) (omega arith) at same
 
-pub code_or_row : (word : List ℕ) (rows : List Row) (code : ℕ) → AllPairs Apart rows → (code_of word rows ≡ Some code) ↔ IsCodeFor rows word code
+pub code_or_row : (word : List ℕ) (rows : List Row) (code : ℕ) → AllPairs Apart (words_of rows) → (code_of word rows ≡ Some code) ↔ IsCodeFor rows word code
 code_or_row word rows code apart =
     (row_of_code word rows code, λ h. code_at word rows h.spelling code h.among.0 apart h.among.1 h.among.2 h.same)
-
--- the test of a table's words says what it should of its rows
-filled : (word : List ℕ) → not (is_empty_word word) ≡ true → word ≢ []
-filled [] e = λ p. true≢false (sym e)
-filled (byte ∷ bytes) e = λ p. cc
-
-pub keywords_are_apart : (rows : List Row) → are_keywords (words_of rows) ≡ true → All Filled rows × AllPairs Apart rows
-keywords_are_apart [] e = (All-nil Filled, λ i j d p q. absurd (omega arith))
-keywords_are_apart (row ∷ rows) e =
-    let p = and_parts (not (is_empty_word row.0)) _ e in
-    let q = and_parts (not (list_any (same_word row.0) (words_of rows))) _ p.1 in
-    let rest = keywords_are_apart rows q.1 in
-    let none : is_some (code_of row.0 rows) ≡ false = is_some-code_of row.0 rows ∙ not-true _ q.0 in
-    (All-cons Filled row rows (filled row.0 p.0) rest.0, AllPairs-cons Apart row rows (all_other row.0 rows none) rest.1)

@@ -1,20 +1,24 @@
 -- From the entries that were cut, and the test of their words, to a table.
-use Rattle.std.proofs.Common.{◌≡◌, ℕ, Bool, true, false, ◌&&◌, ◌==◌, List, length, sym, ap, ◌∙◌, IsTrue}
+use Rattle.std.proofs.Common.{◌≡◌, ℕ, Bool, true, false, ◌&&◌, List, length, sym, ap, ◌∙◌, IsTrue}
 use Rattle.std.proofs.lemmas.Bool.{eq-eqb}
 use Rattle.std.proofs.lemmas.List.{length-map}
 use Rattle.std.proofs.lemmas.Slice.Zip.{firsts-zip}
 use Rattle.sp_words.specs.Spellings.{spellings, are_keywords, is_table}
-use Rattle.sp_words.specs.Rows.{words_of}
+use Rattle.sp_words.specs.Rows.{Row, words_of}
 use Rattle.sp_words.specs.Entries.{IsCut, row_at, rows_of}
 use Rattle.sp_words.specs.Kept.{IsKept}
 use Rattle.sp_words.specs.declared.entries.Entry.{Entry}
-use Rattle.sp_words.proofs.RowLaws.{keywords_are_apart}
+use Rattle.sp_words.proofs.TestLaws.{table_from_test}
 
 pub keeps : (n : ℕ) (text codes : List ℕ) (entries : List Entry) → IsCut n text codes entries
     → true ≡ are_keywords (words_of (rows_of text entries)) → IsKept n text entries
 keeps n text codes entries cut tested =
-    let apart = keywords_are_apart (rows_of text entries) (sym tested) in
-    record { within = cut.within; table = record { count = length-map entries (row_at text) ∙ cut.room; filled = apart.0; apart = apart.1 } }
+    let words = words_of (rows_of text entries) in
+    let table = table_from_test words (sym tested) in
+    record {
+      within = cut.within;
+      table = record { count = length-map (rows_of text entries) (λ (row : Row). row.0) ∙ (length-map entries (row_at text) ∙ cut.room); filled = table.0; apart = table.1 };
+    }
 
 is_table-cut : (n : ℕ) (text codes : List ℕ) (entries : List Entry) → IsCut n text codes entries → length codes ≡ n
     → is_table text n ≡ are_keywords (words_of (rows_of text entries))

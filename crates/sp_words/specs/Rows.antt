@@ -1,12 +1,13 @@
 -- The rows of a table: what a word stands for there.
-use Rattle.std.specs.Prelude.{◌≡◌, ◌≢◌, ℕ, ◌<◌, false, List, [], ◌∷◌, length, map, IsTrue, cond, Option, Some, None}
-use Rattle.std.specs.List.{All, AllPairs, Contains}
+use Rattle.std.specs.Prelude.{ℕ, List, [], ◌∷◌, map, IsTrue, cond, Option, Some, None}
+use Rattle.std.specs.List.{Contains}
 use Rattle.sp_words.specs.Spellings.{same_word}
 
 -- a spelling with its code
 abbrev pub Row : Type 0
 Row = List ℕ × ℕ
 
+-- the spellings of the rows
 abbrev pub words_of : List Row → List (List ℕ)
 words_of rows = map (λ (row : Row). row.0) rows
 
@@ -20,9 +21,3 @@ pub record IsCodeFor (rows : List Row) (word : List ℕ) (code : ℕ) : Type 0 w
   pub spelling : List ℕ
   pub among : Contains rows (spelling, code)
   pub same : IsTrue (same_word word spelling)
-
--- n rows, none with the empty spelling, and no two that are the same word
-pub record IsTable (n : ℕ) (rows : List Row) : Type 0 where
-  pub count : length rows ≡ n
-  pub filled : All (λ (row : Row). row.0 ≢ []) rows
-  pub apart : AllPairs (λ (a b : Row). same_word a.0 b.0 ≡ false) rows

@@ -5,5 +5,5 @@ use Rattle.sp_words.specs.Entries.{rows_of}
 use Rattle.sp_words.specs.declared.keywords.Words.{Words}
 
 -- the spellings of the table in their order, each with its code
-abbrev pub rows_in : {n : ℕ} → Words n → List Row
+unfoldable pub rows_in : {n : ℕ} → Words n → List Row
 rows_in table = rows_of table.text.now table.entries

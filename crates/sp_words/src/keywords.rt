@@ -1,8 +1,8 @@
 //! A table of keywords.
 ghost use Rattle.std.specs.Prelude.{◌≡◌, ℕ, ◌↔◌, IsSome, IsNone, IfSome, IsTrue, false, Some};
 ghost use Rattle.std.specs.List.{All, zip};
-ghost use Rattle.sp_words.specs.Spellings.{spellings, same_word, is_table};
-ghost use Rattle.sp_words.specs.Rows.{code_of, IsCodeFor, IsTable};
+ghost use Rattle.sp_words.specs.Spellings.{spellings, same_word, is_table, IsTable};
+ghost use Rattle.sp_words.specs.Rows.{words_of, code_of, IsCodeFor};
 ghost use Rattle.sp_words.specs.Kept.{IsKept};
 
 use crate::cutting::cut;
@@ -23,10 +23,11 @@ impl<const N: usize> Words<N> {
     ///
     /// `None` exactly where there are not `N` spellings, one is empty, or two are the same word when ASCII case is ignored.
     /// The empty text has no spelling; a blank at either end, and two in a row, make an empty one.
+    #[tactic(auto, unfolding(crate::specs::Words::rows_in))]
     pub fn new(words: &'static str, codes: [u16; N]) -> Option<Words<N>>
         ensures made { IsSome result ↔ IsTrue (is_table words.now N) }
         ensures rows { IfSome result (λ table. rows_in table ≡ zip (spellings words.now) codes.entry) }
-        ensures table { IfSome result (λ table. IsTable N (rows_in table)) }
+        ensures table { IfSome result (λ table. IsTable N (words_of (rows_in table))) }
     {
         let text = words.as_bytes();
         match cut(text, &codes) {
@@ -44,11 +45,12 @@ impl<const N: usize> Words<N> {
     /// The code of the row that equals the word when ASCII case is ignored; `None` exactly where no row does.
     ///
     /// Only A to Z fold: a byte above 127 equals itself alone.
+    #[tactic(auto, unfolding(crate::specs::Words::rows_in))]
     pub fn find(&self, word: &[u8]) -> Option<u16>
         ensures code { result ≡ code_of word.now (rows_in self.now) }
         ensures row { (code : ℕ) → (result ≡ Some code) ↔ IsCodeFor (rows_in self.now) word.now code }
         ensures none { IsNone result ↔ All (λ row. same_word word.now row.0 ≡ false) (rows_in self.now) }
-        ensures table { IsTable N (rows_in self.now) }
+        ensures table { IsTable N (words_of (rows_in self.now)) }
     {
         let text = self.text;
         code_among(text, &self.entries, word)

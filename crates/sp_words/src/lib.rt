@@ -4,5 +4,9 @@
 mod cutting;
 mod entries;
 mod keywords;
+mod laws;
+#[cfg(test)]
+mod tests;
 
 pub use keywords::Words;
+pub use laws::{spellings_are_pieces, tables_are_tested, words_fold_case};

@@ -1,4 +1,4 @@
-use Rattle.std.proofs.Common.{◌≤◌, ◌-◌, length, drop, take, arith, ap, ◌∙◌, length-take, length-drop}
+use Rattle.std.proofs.Common.{arith, ap, ◌∙◌, length-take, length-drop}
 use Rattle.std.specs.List.{position_or_len}
 use Rattle.std.proofs.lemmas.List.{take_rest}
 use Rattle.sp_words.specs.Spellings.{is_blank}

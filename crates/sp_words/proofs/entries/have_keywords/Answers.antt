@@ -1,4 +1,4 @@
-use Rattle.std.proofs.Common.{sym, ◌∙◌}
+use Rattle.std.proofs.Common.{sym}
 use Rattle.sp_words.proofs.EntryLaws.{keywords_twice, keywords_more}
 use Rattle.sp_words.proofs.entries.have_keywords.Goals as goal
 

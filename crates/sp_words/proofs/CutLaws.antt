@@ -1,7 +1,7 @@
 -- A text that is cut from the left: what is left of it, and one piece more.
 use Rattle.std.proofs.Common.{◌≡◌, ℕ, ◌+◌, ◌-◌, ◌<◌, ◌≤◌, ◌≢◌, cond, not, List, [], ◌∷◌, ◌++◌, length, take, drop, get_or, set, slice_range, nat_le, refl, sym, ap, ap₂, ◌∙◌, inl, inr, arith, length-drop}
 use Rattle.std.specs.List.{All, zip, slice_split, position_or_len}
-use Rattle.std.proofs.lemmas.List.{drop-drop, take_all, take_more_set, drop_more, map-append, append_assoc, append-nil, length-set}
+use Rattle.std.proofs.lemmas.List.{drop-drop, take_all, take_more_set, drop_more, map-append, append_assoc, append-nil, length-set, take_rest}
 use Rattle.std.proofs.lemmas.List.Elements.{All-nil, All-push}
 use Rattle.std.proofs.lemmas.List.Splits.{slice_split_first, slice_split_none}
 use Rattle.std.proofs.lemmas.List.Sums.{prefix_len-le-length, fails_before_first}
@@ -70,10 +70,11 @@ starts n text codes entries start room e bound = record {
 
 pub goes_on : (n : ℕ) (text codes : List ℕ) (entries : List Entry) (i start len : ℕ) → IsCutUpTo n text codes entries i start
     → start ≤ length text → i < n → length codes ≡ n
-    → len ≡ position_or_len is_blank (drop start text)
+    → len ≡ position_or_len is_blank (take (length text - start) (drop start text))
     → IsCutUpTo n text codes (set entries i record { start = start; end = start + len; code = get_or codes i 0 }) (i + 1) (start + len + 1)
-goes_on n text codes entries i start len h left more full is =
+goes_on n text codes entries i start len h left more full read =
     let entry : Entry = record { start = start; end = start + len; code = get_or codes i 0 } in
+    let is : len ≡ position_or_len is_blank (drop start text) = read ∙ ap (position_or_len is_blank) (take_rest text start) in
     let long : length (drop start text) ≡ length text - start = length-drop start text in
     let short : position_or_len is_blank (drop start text) ≤ length (drop start text) = prefix_len-le-length (λ byte. not (is_blank byte)) (drop start text) in
     let first : pieces_from text start ≡ take len (drop start text) ∷ pieces_from text (start + len + 1) =

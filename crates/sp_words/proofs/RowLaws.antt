@@ -14,11 +14,11 @@ Other word row = same_word word row.0 ≡ false
 abbrev pub Apart : List ℕ → List ℕ → Type 0
 Apart a b = same_word a b ≡ false
 
-pub is_some-code_of : (word : List ℕ) (rows : List Row) → is_some (code_of word rows) ≡ list_any (same_word word) (words_of rows)
-is_some-code_of word [] = refl
-is_some-code_of word (row ∷ rows) =
+pub is_some_code_of : (word : List ℕ) (rows : List Row) → is_some (code_of word rows) ≡ list_any (same_word word) (words_of rows)
+is_some_code_of word [] = refl
+is_some_code_of word (row ∷ rows) =
     elim (same_word word row.0) as (λ b. is_some (cond b (Some row.1) (code_of word rows)) ≡ (b || list_any (same_word word) (words_of rows)))
-    [ true ↦ refl | false ↦ is_some-code_of word rows ]
+    [ true ↦ refl | false ↦ is_some_code_of word rows ]
 
 none_parts : (b : Bool) (code : ℕ) (later : Option ℕ) → is_some (cond b (Some code) later) ≡ false → (b ≡ false) × (is_some later ≡ false)
 none_parts true code later e = absurd (true≢false e)

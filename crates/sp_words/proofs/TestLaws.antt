@@ -1,12 +1,13 @@
 -- The test of a table's words says what a table is.
-use Rattle.std.proofs.Common.{◌≡◌, ◌≢◌, ℕ, suc, true, false, not, ◌==◌, List, [], ◌∷◌, length, ◌↔◌, refl, sym, arith}
+use Rattle.std.proofs.Common.{◌≡◌, ◌≢◌, ℕ, suc, true, false, not, ◌==◌, List, [], ◌∷◌, length, ◌↔◌, refl, sym, arith, inl, inr, get_or, ◌<◌}
 use Rattle.std.specs.List.{All, AllPairs, list_any}
-use Rattle.std.proofs.lemmas.Bool.{true≢false, and_parts, and_from, or_parts, not-true, not_from_false, eqb-true, eq-eqb, ne_eqb}
+use Rattle.std.proofs.lemmas.Bool.{both_ways, cases_order, true≢false, and_parts, and_from, or_parts, not-true, not_from_false, eqb-true, eq-eqb, ne_eqb}
 use Rattle.std.proofs.lemmas.List.Elements.{All-nil, All-cons, All-tail}
 use Rattle.std.proofs.lemmas.List.Kept.{AllPairs-cons}
 use Rattle.std.proofs.lemmas.List.Folds.{list_any_none}
 use Rattle.sp_words.specs.Spellings.{spellings, same_word, is_empty_word, are_keywords, is_table, IsTable}
 use Rattle.sp_words.proofs.RowLaws.{Apart}
+use Rattle.sp_words.proofs.WordLaws.{same_word_joins}
 
 abbrev pub Filled : List ℕ → Type 0
 Filled word = word ≢ []
@@ -48,3 +49,18 @@ test_or_table text n = (
       record { count = eqb-true _ _ p.0; filled = table.0; apart = table.1 },
   λ h. and_from _ _ (eq-eqb _ _ h.count) (test_from_table (spellings text) h.filled h.apart),
 )
+
+-- two places that hold the same word are one place
+pub one_place : (n : ℕ) (words : List (List ℕ)) (word : List ℕ) (i j : ℕ) (d : List ℕ) → IsTable n words → i < n → j < n
+    → same_word word (get_or words i d) ≡ true → same_word word (get_or words j d) ≡ true → i ≡ j
+one_place n words word i j d table low high first second =
+    let a = get_or words i d in
+    let b = get_or words j d in
+    let long : length words ≡ n = table.count in
+    elim (cases_order i j) [
+      | inl same ↦ same
+      | inr differ ↦ elim differ [
+        | inl before ↦ absurd (both_ways _ (table.apart i j d before (omega arith)) (same_word_joins word a b first second))
+        | inr after ↦ absurd (both_ways _ (table.apart j i d after (omega arith)) (same_word_joins word b a second first))
+      ]
+    ]

@@ -1,5 +1,6 @@
 -- Words that are the same when the case of their letters is ignored.
-use Rattle.std.proofs.Common.{◌≡◌, ℕ, true, false, List, map, sym, ◌∙◌}
+use Rattle.std.proofs.Common.{◌≡◌, ℕ, Bool, true, false, List, map, ◌↔◌, sym, ◌∙◌}
+use Rattle.std.specs.Bool.{one_answer}
 use Rattle.std.specs.Char.{to_ascii_lowercase}
 use Rattle.std.proofs.lemmas.Slice.Eq.{bytes_eq-Decides}
 use Rattle.std.proofs.lemmas.Bool.{false_from_ne_true, both_ways}
@@ -22,3 +23,7 @@ same_word_joins word a b p q = same_word-true a b (sym (lowered word a p) ∙ lo
 pub same_word_parts : (word a b : List ℕ) → same_word a b ≡ false → same_word word b ≡ true → same_word word a ≡ false
 same_word_parts word a b apart same =
     false_from_ne_true _ (λ e. both_ways _ apart (same_word_joins word a b e same))
+
+-- a test of the folded bytes is the test of the words
+pub same_word_from_test : (a b : List ℕ) (r : Bool) → ((r ≡ true) ↔ (map to_ascii_lowercase a ≡ map to_ascii_lowercase b)) → r ≡ same_word a b
+same_word_from_test a b r test = one_answer r (same_word a b) test (bytes_eq-Decides _ _)

@@ -10,9 +10,12 @@ pub record IsWithin (text : List ℕ) (entry : Entry) : Type 0 where
   pub rising : entry.start ≤ entry.end
   pub ends : entry.end ≤ length text
 
--- the spelling that the entry cuts from the text, with its code
+-- the spelling that the entry cuts from the text
+abbrev pub spelling_at : List ℕ → Entry → List ℕ
+spelling_at text entry = slice_range text entry.start entry.end
+
 abbrev pub row_at : List ℕ → Entry → Row
-row_at text entry = (slice_range text entry.start entry.end, entry.code)
+row_at text entry = (spelling_at text entry, entry.code)
 
 abbrev pub rows_of : List ℕ → List Entry → List Row
 rows_of text entries = map (row_at text) entries

@@ -1,6 +1,6 @@
 //! Laws of keyword tables: each is the contract of a function that does nothing.
 
-ghost use Rattle.std.specs.Prelude.{◌≡◌, ◌↔◌, ℕ, List, [], length, false, IsTrue};
+ghost use Rattle.std.specs.Prelude.{◌≡◌, ◌↔◌, ℕ, ◌<◌, List, [], length, slice_index_or, false, IsTrue};
 ghost use Rattle.std.specs.List.{All, AllZip, join_with_byte};
 ghost use Rattle.sp_words.specs.Spellings.{is_blank, spellings, IsSameByte, same_word, IsTable, is_table};
 
@@ -19,4 +19,10 @@ pub fn words_fold_case()
 /// The test of a text says exactly that its spellings make a table.
 pub fn tables_are_tested()
     ensures { (text : List ℕ) (n : ℕ) → IsTrue (is_table text n) ↔ IsTable n (spellings text) }
+{}
+
+/// At most one spelling of a table is the word.
+pub fn words_have_one_row()
+    ensures { (n : ℕ) (words : List (List ℕ)) (word : List ℕ) (i j : ℕ) (d : List ℕ) → IsTable n words → i < n → j < n
+        → IsTrue (same_word word (slice_index_or words i d)) → IsTrue (same_word word (slice_index_or words j d)) → i ≡ j }
 {}

@@ -9,4 +9,4 @@ mod laws;
 mod tests;
 
 pub use keywords::Words;
-pub use laws::{spellings_are_pieces, tables_are_tested, words_fold_case};
+pub use laws::{spellings_are_pieces, tables_are_tested, words_fold_case, words_have_one_row};

@@ -1,12 +1,8 @@
 use Rattle.sp_words.specs.Words.{rows_in}
-use Rattle.sp_words.proofs.RowLaws.{code_or_row, none_or_other}
+use Rattle.sp_words.proofs.RowLaws.{code_or_row}
 use Rattle.sp_words.proofs.keywords.Words.find.Goals as goal
 
 pub returns-clause-row : goal.returns-clause-row
 unfolding rows_in
 returns-clause-row g c =
     rw c.code_among.ensures (λ code. code_or_row c.args.word.now (rows_in c.args.self.now) code c.args.self.now.kept.table.apart)
-
-pub returns-clause-none : goal.returns-clause-none
-unfolding rows_in
-returns-clause-none g c = rw c.code_among.ensures (none_or_other c.args.word.now (rows_in c.args.self.now))

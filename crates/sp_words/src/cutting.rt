@@ -37,9 +37,8 @@ pub(crate) fn cut<const N: usize>(text: &[u8], codes: &[u16; N]) -> Option<[Entr
         };
         start = end + 1;
     }
-    if text.len() < start {
-        Some(entries)
-    } else {
-        None
+    if start <= text.len() {
+        return None;
     }
+    Some(entries)
 }

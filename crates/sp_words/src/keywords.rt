@@ -52,7 +52,6 @@ impl<const N: usize> Words<N> {
         ensures none { IsNone result ↔ All (λ row. same_word word.now row.0 ≡ false) (rows_in self.now) }
         ensures table { IsTable N (words_of (rows_in self.now)) }
     {
-        let text = self.text;
-        code_among(text, &self.entries, word)
+        code_among(self.text, &self.entries, word)
     }
 }

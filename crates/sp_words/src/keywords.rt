@@ -8,7 +8,13 @@ ghost use Rattle.sp_words.specs.Kept.{IsKept};
 use crate::cutting::cut;
 use crate::entries::{Entry, code_among, have_keywords};
 
-/// A table of `N` keywords, each with a code. It takes no memory of its own.
+/// A table of `N` keywords, each with a code. It takes no memory from an allocator.
+///
+/// A text that is written out makes its table with no test as the program runs, since the check computes that it is one:
+///
+/// ```text
+/// Words::new("minimize min maximize max", [1, 1, 2, 2]).unwrap()
+/// ```
 #[derive(Clone, Copy, Debug)]
 pub struct Words<const N: usize> {
     text: &'static [u8],
@@ -44,7 +50,7 @@ impl<const N: usize> Words<N> {
 
     /// The code of the row that equals the word when ASCII case is ignored; `None` exactly where no row does.
     ///
-    /// Only A to Z fold: a byte above 127 equals itself alone.
+    /// Only A to Z fold: a byte above 127 equals itself alone. A row is compared byte by byte only where it is as long as the word.
     #[tactic(auto, using(crate::proofs::RowLaws::none_or_other), unfolding(crate::specs::Words::rows_in))]
     pub fn find(&self, word: &[u8]) -> Option<u16>
         ensures code { result ≡ code_of word.now (rows_in self.now) }

@@ -1,10 +1,10 @@
 -- What a fraction is read as, said without computing it, and that one answer alone fits.
-use Rattle.std.proofs.Common.{◌≡◌, ◌≢◌, ℕ, zero, suc, ◌+◌, ◌-◌, ◌*◌, ◌/◌, ◌%◌, ◌^◌, ◌<◌, ◌≤◌, Bool, true, false, cond, eqb, leb, ltb, List, [], ◌∷◌, Option, None, Some, Result, Ok, Err, ℤ, inl, inr, refl, sym, ap, ◌∙◌, subst, arith}
-use Rattle.std.proofs.lemmas.Nat.{div-add-mod', pow-add}
+use Rattle.std.proofs.Common.{◌≡◌, ◌≢◌, ℕ, zero, suc, ◌+◌, ◌*◌, ◌/◌, ◌%◌, ◌^◌, ◌<◌, ◌≤◌, Bool, true, false, cond, eqb, leb, ltb, Option, None, Some, Result, Ok, Err, ℤ, inl, inr, refl, sym, ap, ◌∙◌, arith}
+use Rattle.std.proofs.lemmas.Nat.{div-add-mod'}
 use Rattle.std.proofs.lemmas.Bool.{cases_lt}
 use Rattle.std.proofs.lemmas.Bool.Decides.{nat_tests, Decides-eqb}
 use Rattle.std.proofs.lemmas.Int.{ints}
-use Rattle.std.proofs.Math.Nat.{le_of_mul-le-mul_right, eq_of_mul-eq-mul_right, mul_right_comm, mul-le-mul_left, mul-mod_left, pow-le-pow_right}
+use Rattle.std.proofs.Math.Nat.{le_of_mul-le-mul_right, eq_of_mul-eq-mul_right, mul-le-mul_left, mul-mod_left, pow-le-pow_right}
 use Rattle.std.specs.List.{find, range_with_len}
 use Rattle.std.specs.Int.RustNames.{unsigned_abs}
 use Rattle.sp_decimal.specs.DecimalFraction.{DecimalFraction}
@@ -80,8 +80,9 @@ digits-le a b s t q n hb le eq en =
 wide-found : (a b s : ℕ) → 0 < b → Found (Ends a b) 0 31 (Some s) → 10 ^ 30 ≤ a * 10 ^ s / b → (digits places : ℕ) → IsWritten a b digits places → ⊥
 wide-found a b s hb h wide n t w =
     elim (cases_lt t s) [
-      inl lt ↦ no_number a b t n (h.2 t (omega arith) lt) w.equal
-    | inr ge ↦ let le = digits-le a b s t (a * 10 ^ s / b) n hb ge (quotient-from (a * 10 ^ s) b h.1) w.equal in let small = w.small in omega arith ]
+      | inl lt ↦ no_number a b t n (h.2 t (omega arith) lt) w.equal
+      | inr ge ↦ let le = digits-le a b s t (a * 10 ^ s / b) n hb ge (quotient-from (a * 10 ^ s) b h.1) w.equal in let small = w.small in omega arith
+    ]
 
 told-some : (negative : Bool) (a b s : ℕ) (small : Bool) → ltb (a * 10 ^ s / b) (10 ^ 30) ≡ small → 0 < b → a < 10 ^ 30 * b → Found (Ends a b) 0 31 (Some s)
     → Tells negative a b (cond small (Ok (Exact (record { p = signed negative (a * 10 ^ s / b); s = s }))) (Err Wide))

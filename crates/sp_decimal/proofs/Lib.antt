@@ -1,2 +1,4 @@
 pub mod FractionLaws
 pub mod FractionAnswers
+pub mod DigitRuns
+pub mod CutLaws

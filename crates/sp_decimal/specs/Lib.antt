@@ -2,3 +2,4 @@ pub mod DecimalFraction
 pub mod Grammar
 pub mod Numerals
 pub mod Readings
+pub mod Parts

@@ -3,6 +3,7 @@
 
 mod decimals;
 mod numerals;
+mod parts;
 
 pub use decimals::Decimal;
 pub use numerals::{Numeral, NumeralFault};

@@ -2,3 +2,5 @@ pub mod FractionLaws
 pub mod FractionAnswers
 pub mod DigitRuns
 pub mod CutLaws
+pub mod DigitValues
+pub mod StripLaws

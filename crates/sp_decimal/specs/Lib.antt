@@ -3,3 +3,4 @@ pub mod Grammar
 pub mod Numerals
 pub mod Readings
 pub mod Parts
+pub mod Significands

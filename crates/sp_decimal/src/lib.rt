@@ -4,6 +4,7 @@
 mod decimals;
 mod numerals;
 mod parts;
+mod significands;
 
 pub use decimals::Decimal;
 pub use numerals::{Numeral, NumeralFault};

@@ -4,3 +4,4 @@ pub mod DigitRuns
 pub mod CutLaws
 pub mod DigitValues
 pub mod StripLaws
+pub mod PlaceLaws

@@ -8,7 +8,7 @@ use Rattle.sp_decimal.specs.Grammar.{value_of}
 use Rattle.sp_decimal.specs.Significands.{number_of, IsSignificand, IsFrontTrimmed, IsBackTrimmed, IsStripped}
 use Rattle.sp_decimal.proofs.DigitValues.{value-lt}
 
-power-parts : (n i j : ℕ) → n ≡ i + j → 10 ^ n ≡ 10 ^ i * 10 ^ j
+pub power-parts : (n i j : ℕ) → n ≡ i + j → 10 ^ n ≡ 10 ^ i * 10 ^ j
 power-parts n i j e = ap (λ k. 10 ^ k) e ∙ pow-add 10 i j
 
 zero_more : (n : ℕ) → n + 0 ≡ n

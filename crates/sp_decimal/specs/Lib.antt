@@ -4,3 +4,4 @@ pub mod Numerals
 pub mod Readings
 pub mod Parts
 pub mod Significands
+pub mod Places

@@ -4,6 +4,7 @@
 mod decimals;
 mod numerals;
 mod parts;
+mod places;
 mod significands;
 
 pub use decimals::Decimal;

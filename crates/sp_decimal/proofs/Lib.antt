@@ -5,3 +5,4 @@ pub mod CutLaws
 pub mod DigitValues
 pub mod StripLaws
 pub mod PlaceLaws
+pub mod ReadLaws

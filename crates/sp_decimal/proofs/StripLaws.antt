@@ -83,6 +83,9 @@ joined-fits h t m n k l =
     let p : (h + 1) * 10 ^ n ≤ 10 ^ m * 10 ^ n = mul-le-mul_right (10 ^ n) (omega arith) in
     omega (arith, p, pow-add 10 m n)
 
+pub number-lt : (hs ts : List ℕ) → list_all is_ascii_digit hs ≡ true → list_all is_ascii_digit ts ≡ true → number_of hs ts < 10 ^ (length hs + length ts)
+number-lt hs ts h t = joined-fits (value_of hs) (value_of ts) (length hs) (length ts) (value-lt hs h) (value-lt ts t)
+
 joined-last : (h t n : ℕ) → 0 < n → t % 10 ≢ 0 → (h * 10 ^ n + t) % 10 ≢ 0
 joined-last h t zero pos ne z = absurd (omega arith)
 joined-last h t (suc n) pos ne z = ne (let p : h * 10 ^ suc n ≡ h * (10 ^ n * 10) = ap (λ k. h * k) (pow-suc 10 n) in omega (arith, p))

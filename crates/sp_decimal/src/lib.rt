@@ -5,6 +5,7 @@ mod decimals;
 mod numerals;
 mod parts;
 mod places;
+mod reading;
 mod significands;
 
 pub use decimals::Decimal;

@@ -54,6 +54,7 @@ fn is_digits(text: &[u8]) -> bool
 }
 
 // The mantissa that a text begins with, and what stands behind it.
+#[derive(Clone, Copy)]
 struct Mantissa<'a> {
     whole: &'a [u8],
     fraction: &'a [u8],
@@ -61,6 +62,7 @@ struct Mantissa<'a> {
 }
 
 /// A numeral without its sign.
+#[derive(Clone, Copy)]
 pub(crate) struct Parts<'a> {
     /// The digits before the full stop.
     pub(crate) whole: &'a [u8],

@@ -12,6 +12,7 @@ use crate::parts::split_sign;
 pub(crate) const FAR: u128 = 1 << 100;
 
 /// How a number of digits is answered.
+#[derive(Clone, Copy)]
 pub(crate) enum Place {
     /// It is 10^30 or more.
     TooLarge,
@@ -30,6 +31,7 @@ pub(crate) enum Place {
 }
 
 /// How far an exponent raises a value, and how far it lowers it, each at most [`FAR`].
+#[derive(Clone, Copy)]
 pub(crate) struct Shift {
     /// By how many powers of ten it raises.
     pub(crate) raised: u128,

@@ -35,6 +35,7 @@ fn without_trailing_zeros(digits: &[u8]) -> &[u8]
 }
 
 /// Digits before and behind a full stop, without the zeros around them.
+#[derive(Clone, Copy)]
 pub(crate) struct Stripped<'a> {
     /// The digits before the full stop.
     pub(crate) head: &'a [u8],

@@ -171,7 +171,7 @@ spoilt-pointed t w f q b e h k digit letter =
     spoilt-digits (w ++ f) b m' (whole_part (mantissa t) ++ fraction_part (mantissa t)) digit
     (rw (whole, fraction) (sym (append_assoc w f (b ∷ m'))))
 
-cut-spoilt : (t w f q : List ℕ) (b : ℕ) → BeginsWith t w f (b ∷ q) → is_exponent_letter b ≡ false → is_mantissa (mantissa t) ≡ false
+pub cut-spoilt : (t w f q : List ℕ) (b : ℕ) → BeginsWith t w f (b ∷ q) → is_exponent_letter b ≡ false → is_mantissa (mantissa t) ≡ false
 cut-spoilt t w f q b h letter = elim h.joined [
   | inl alone ↦ spoilt-alone t w q b alone.0 h.all_whole h.ends alone.2 letter
   | inr pointed ↦ spoilt-pointed t w f q b pointed h.all_whole h.all_fraction h.ends letter

@@ -6,3 +6,4 @@ pub mod DigitValues
 pub mod StripLaws
 pub mod PlaceLaws
 pub mod ReadLaws
+pub mod ReadingLaws

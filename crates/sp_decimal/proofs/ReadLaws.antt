@@ -96,7 +96,7 @@ value-at negative whole fraction head tail e zeros up down cap p s some raised l
     ∙ ap (λ n. fraction_numeral negative n (10 ^ (length fraction + lowered_by e))) (shifted (number_of whole fraction) (number_of head tail) zeros (raised_by e) s.value)
 
 -- the three ways in which a text is read
-numeral-by : (t : List ℕ) (endless plain : Bool) → is_infinity (unsigned t) ≡ endless → is_plain_numeral (unsigned t) ≡ plain
+pub numeral-by : (t : List ℕ) (endless plain : Bool) → is_infinity (unsigned t) ≡ endless → is_plain_numeral (unsigned t) ≡ plain
     → numeral t ≡ cond endless (Ok (Huge (has_minus t))) (cond plain (fraction_numeral (has_minus t) (top (unsigned t)) (bottom (unsigned t))) (Err NotNumeral))
 unfolding numeral
 numeral-by t endless plain e h = rw (e, h) refl

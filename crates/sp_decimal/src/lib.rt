@@ -2,6 +2,7 @@
 #![tactic(auto)]
 
 mod decimals;
+mod numeral_laws;
 mod numerals;
 mod parts;
 mod places;
@@ -9,4 +10,5 @@ mod reading;
 mod significands;
 
 pub use decimals::Decimal;
+pub use numeral_laws::{reading_is_what_answer_says, written_is_exact};
 pub use numerals::{Numeral, NumeralFault};

@@ -12,3 +12,6 @@ mod significands;
 pub use decimals::Decimal;
 pub use numeral_laws::{reading_is_what_answer_says, written_is_exact};
 pub use numerals::{Numeral, NumeralFault};
+
+#[cfg(test)]
+mod numeral_tests;

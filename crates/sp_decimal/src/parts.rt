@@ -108,11 +108,7 @@ fn power_of(text: &[u8]) -> Option<&[u8]>
 {
     match text {
         [] => Some(text),
-        [b'e' | b'E', power @ ..] => if is_exponent(power) {
-            Some(power)
-        } else {
-            None
-        },
+        [b'e' | b'E', power @ ..] if is_exponent(power) => Some(power),
         _ => None,
     }
 }

@@ -1,0 +1,8 @@
+use Rattle.sp_decimal.proofs.ReadingLaws.{reading-iff, reading-unique}
+use Rattle.sp_decimal.proofs.numeral_laws.reading_is_what_answer_says.Goals as goal
+
+pub returns-clause-says : goal.returns-clause-says
+returns-clause-says c = reading-iff
+
+pub returns-clause-one : goal.returns-clause-one
+returns-clause-one c = reading-unique

@@ -1,0 +1,5 @@
+use Rattle.sp_decimal.proofs.ReadingLaws.{written}
+use Rattle.sp_decimal.proofs.numeral_laws.written_is_exact.Goals as goal
+
+pub returns : goal.returns
+returns c = written

@@ -1,1 +1,3 @@
 pub mod FractionLaws
+pub mod Powers
+pub mod RoundingLaws

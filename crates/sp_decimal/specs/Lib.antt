@@ -1,3 +1,4 @@
 pub mod DecimalFraction
 pub mod Grammar
 pub mod Numerals
+pub mod Rounding

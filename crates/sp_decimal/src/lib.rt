@@ -3,6 +3,8 @@
 
 mod decimals;
 mod numerals;
+mod rounding;
 
 pub use decimals::Decimal;
 pub use numerals::{Numeral, NumeralFault};
+pub use rounding::{ceil, floor, scaled};

@@ -1,3 +1,12 @@
 pub mod FractionLaws
 pub mod Powers
 pub mod RoundingLaws
+pub mod TrailingZeros
+pub mod LastDigits
+pub mod PrintedText
+pub mod NumberText
+pub mod PointPlaces
+pub mod DroppedZeros
+pub mod PlainText
+pub mod PrintedValue
+pub mod PrintedShortest

@@ -1,4 +1,5 @@
 pub mod DecimalFraction
 pub mod Grammar
 pub mod Numerals
+pub mod Printing
 pub mod Rounding

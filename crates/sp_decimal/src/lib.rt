@@ -3,8 +3,12 @@
 
 mod decimals;
 mod numerals;
+mod printing;
+#[cfg(test)]
+mod printing_tests;
 mod rounding;
 
 pub use decimals::Decimal;
 pub use numerals::{Numeral, NumeralFault};
+pub use printing::{Printed, print};
 pub use rounding::{ceil, floor, scaled};

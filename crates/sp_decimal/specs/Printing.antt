@@ -1,0 +1,44 @@
+-- The texts that numbers with decimal places are printed as.
+use Rattle.std.specs.Prelude.{◌≡◌, ◌≢◌, ℕ, ◌-◌, ◌/◌, ◌%◌, ◌^◌, IsTrue, Bool, ◌==◌, if◌then◌else◌, List, [], ◌∷◌, ◌++◌, length, slice_index, replicate, codes, ℤ, unsigned_abs}
+use Rattle.std.specs.List.{list_all, list_any}
+use Rattle.std.specs.Char.{is_ascii_digit}
+use Rattle.std.specs.Int.{is_negative}
+use Rattle.std.specs.Fmt.{decimal, sign_text}
+use Rattle.sp_decimal.specs.Grammar.{some_digits, is_point, unsigned, whole_part, fraction_part}
+
+-- the digit 0
+abbrev pub is_zero : ℕ → Bool
+is_zero b = b == 48
+
+-- the digits up to the last that isn't 0
+abbrev pub without_zeros : List ℕ → List ℕ
+without_zeros [] = []
+without_zeros (d ∷ digits) = if list_all is_zero (d ∷ digits) then [] else d ∷ without_zeros digits
+
+-- the number with zeros in front of it, so that it fills so many places
+unfoldable pub filled : ℕ → ℕ → List ℕ
+filled places n = replicate (places - length (decimal n)) 48 ++ decimal n
+
+-- a point and the digits behind it, or nothing where there are none
+abbrev pub with_point : List ℕ → List ℕ
+with_point [] = []
+with_point (d ∷ digits) = 46 ∷ d ∷ digits
+
+-- the text of n / 10^s: the whole part, and what is left as digits behind a point
+unfoldable pub printed_size : ℕ → ℕ → List ℕ
+printed_size n s = decimal (n / 10 ^ s) ++ with_point (without_zeros (filled s (n % 10 ^ s)))
+
+-- the text of z / 10^s
+unfoldable pub printed : ℤ → ℕ → List ℕ
+printed z s = sign_text (is_negative z) ++ printed_size (unsigned_abs z) s
+
+-- a text with nothing that could be left out: digits, with 0 as the first only where it is alone; behind a point, if there is one, digits
+-- of which the last isn't 0; and no sign but a minus, which doesn't stand before 0
+pub record IsShortest (text : List ℕ) : Type 0 where
+  pub whole : IsTrue (some_digits (whole_part (unsigned text)))
+  pub first : slice_index (whole_part (unsigned text)) 0 ≡ 48 → length (whole_part (unsigned text)) ≡ 1
+  pub behind : IsTrue (list_all is_ascii_digit (fraction_part (unsigned text)))
+  pub last : slice_index (fraction_part (unsigned text)) (length (fraction_part (unsigned text)) - 1) ≢ 48
+  pub point : IsTrue (list_any is_point text) → fraction_part (unsigned text) ≢ []
+  pub no_plus : slice_index text 0 ≢ 43
+  pub no_minus_zero : text ≢ codes "-0"

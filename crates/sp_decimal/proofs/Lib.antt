@@ -9,4 +9,4 @@ pub mod PointPlaces
 pub mod DroppedZeros
 pub mod PlainText
 pub mod PrintedValue
-pub mod PrintedShortest
+pub mod PrintedForm

@@ -32,9 +32,9 @@ printed_size n s = decimal (n / 10 ^ s) ++ with_point (without_zeros (filled s (
 unfoldable pub printed : ℤ → ℕ → List ℕ
 printed z s = sign_text (is_negative z) ++ printed_size (unsigned_abs z) s
 
--- a text with nothing that could be left out: digits, with 0 as the first only where it is alone; behind a point, if there is one, digits
--- of which the last isn't 0; and no sign but a minus, which doesn't stand before 0
-pub record IsShortest (text : List ℕ) : Type 0 where
+-- the one form in which a value is printed: digits, the first of them 0 only where it is alone; behind a point, if there is one, digits, the last
+-- of them not 0; and no sign but a minus, which doesn't stand before 0
+pub record IsNormalForm (text : List ℕ) : Type 0 where
   pub whole : IsTrue (some_digits (whole_part (unsigned text)))
   pub first : slice_index (whole_part (unsigned text)) 0 ≡ 48 → length (whole_part (unsigned text)) ≡ 1
   pub behind : IsTrue (list_all is_ascii_digit (fraction_part (unsigned text)))

@@ -3,7 +3,7 @@ ghost use Rattle.std.specs.Fmt.{sign_text};
 ghost use Rattle.std.specs.Int.{is_negative};
 ghost use Rattle.sp_decimal.specs.Grammar.{has_minus};
 ghost use Rattle.sp_decimal.specs.Numerals.{numeral, fraction_numeral};
-ghost use Rattle.sp_decimal.specs.Printing.{printed, printed_size, without_zeros, IsShortest};
+ghost use Rattle.sp_decimal.specs.Printing.{printed, printed_size, without_zeros, IsNormalForm};
 
 use itoa::Buffer;
 use std::marker::Model;
@@ -61,13 +61,13 @@ impl Printed {
     }
 }
 
-/// The shortest text of `z / 10^s` for at most thirty places: a minus before a negative number alone, the whole part
-/// without a zero in front but the one of `0`, and behind a point, if any are left, the digits up to the last that
-/// isn't 0.
+/// The text of `z / 10^s` for at most thirty places, in as few digits as there are with one before the point: a minus
+/// before a negative number alone, the whole part without a zero in front but the one that stands alone, and, where
+/// the number isn't whole, a point and the digits up to the last that isn't 0.
 pub fn print(z: i128, s: u8) -> Printed
     requires { s ≤ 30 }
     ensures exact { result ≡ printed z s }
-    ensures shortest { IsShortest result }
+    ensures normal { IsNormalForm result }
     ensures negative { has_minus result ≡ is_negative z }
     ensures reads { numeral result ≡ fraction_numeral (is_negative z) (unsigned_abs z) (10 ^ s) }
 {

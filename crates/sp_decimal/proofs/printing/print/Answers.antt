@@ -1,7 +1,7 @@
 use Rattle.std.proofs.Common.{refl, arith}
 use Rattle.std.specs.Int.{w128}
 use Rattle.std.proofs.lemmas.Int.{to_z-of_z}
-use Rattle.sp_decimal.proofs.PrintedShortest.{printed-shortest}
+use Rattle.sp_decimal.proofs.PrintedForm.{printed-normal}
 use Rattle.sp_decimal.proofs.PrintedText.{printed_from}
 use Rattle.sp_decimal.proofs.PrintedValue.{printed-reads, printed-has_minus}
 use Rattle.sp_decimal.proofs.printing.print.Goals as goal
@@ -16,7 +16,7 @@ returns c =
     let exact = printed_from z _ c.unsigned_abs.result s c.sign_of.result.now c.print_size.result same c.sign_of.ensures c.unsigned_abs.ensures.value c.print_size.ensures in
     rw exact (record {
       exact = refl;
-      shortest = printed-shortest z s (omega arith);
+      normal = printed-normal z s (omega arith);
       negative = printed-has_minus z s (omega arith);
       reads = printed-reads z s (omega arith);
     })

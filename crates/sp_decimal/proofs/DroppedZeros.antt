@@ -10,7 +10,7 @@ use Rattle.sp_decimal.proofs.PointPlaces.{and_left, and_right}
 use Rattle.sp_decimal.proofs.TrailingZeros.{by_without_zeros}
 
 -- the number that digits stand for behind a number that was read already
-abbrev value_behind : ℕ → List ℕ → ℕ
+abbrev pub value_behind : ℕ → List ℕ → ℕ
 value_behind a digits = fold (λ value digit. 10 * value + (digit - 48)) a digits
 
 zero_digit : (d : ℕ) → is_zero d ≡ true → d ≡ 48
@@ -47,10 +47,10 @@ digits-without_zeros xs =
 dropped_whole : (xs : List ℕ) → without_zeros xs ≡ [] → list_all is_zero xs ≡ true
 dropped_whole xs = by_without_zeros (λ xs ys. ys ≡ [] → list_all is_zero xs ≡ true) (λ xs none e. none) (λ x xs some h e. absurd (cc)) xs
 
-abbrev last_of : List ℕ → ℕ
+abbrev pub last_of : List ℕ → ℕ
 last_of xs = get_or xs (length xs - 1) 0
 
-last_of-cons : (x y : ℕ) (ys : List ℕ) → last_of (x ∷ y ∷ ys) ≡ last_of (y ∷ ys)
+pub last_of-cons : (x y : ℕ) (ys : List ℕ) → last_of (x ∷ y ∷ ys) ≡ last_of (y ∷ ys)
 last_of-cons x y ys =
     let at : suc (suc (length ys)) - 1 ≡ suc (length ys) = omega arith in
     let before : suc (length ys) - 1 ≡ length ys = omega arith in

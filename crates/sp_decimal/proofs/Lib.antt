@@ -10,3 +10,5 @@ pub mod DroppedZeros
 pub mod PlainText
 pub mod PrintedValue
 pub mod PrintedForm
+pub mod OneValue
+pub mod OneForm

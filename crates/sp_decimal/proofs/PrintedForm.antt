@@ -13,7 +13,7 @@ use Rattle.sp_decimal.proofs.PrintedValue.{IsParted, parted}
 
 -- the record's fields, for the text without its sign
 normal_from : (text u w f : List ℕ) → AreDigits w f → unsigned text ≡ u → whole_part u ≡ w → fraction_part u ≡ f → (get_or w 0 0 ≡ 48 → length w ≡ 1) → get_or f (length f - 1) 0 ≢ 48
-    → (list_any is_point text ≡ true → f ≢ []) → get_or text 0 0 ≢ 43 → text ≢ 45 ∷ 48 ∷ [] → IsNormalForm text
+    → (list_any is_point u ≡ true → f ≢ []) → get_or text 0 0 ≢ 43 → text ≢ 45 ∷ 48 ∷ [] → IsNormalForm text
 normal_from text u w f d unsign whole behind first last point plus minus = record {
   whole = rw (unsign, whole) (some_digits-whole w f d);
   first = rw (unsign, whole) first;
@@ -25,10 +25,9 @@ normal_from text u w f d unsign whole behind first last point plus minus = recor
 }
 
 -- a point has digits behind it
-point_behind : (negative : Bool) (w f : List ℕ) → AreDigits w f → list_any is_point (sign_text negative ++ plain w f) ≡ true → f ≢ []
-point_behind true w [] d e = let none = no_point w d.whole in let same = rw (append-nil w) at e in absurd (cc)
-point_behind false w [] d e = let none = no_point w d.whole in let same = rw (append-nil w) at e in absurd (cc)
-point_behind negative w (x ∷ f) d e = λ n. absurd (cc)
+point_behind : (w f : List ℕ) → AreDigits w f → list_any is_point (plain w f) ≡ true → f ≢ []
+point_behind w [] d e = let none = no_point w d.whole in let same = rw (append-nil w) at e in absurd (cc)
+point_behind w (x ∷ f) d e = λ n. absurd (cc)
 
 first_byte : (negative : Bool) (w f : List ℕ) → AreDigits w f → get_or (sign_text negative ++ plain w f) 0 0 ≢ 43
 first_byte true w f d e = absurd (omega arith)
@@ -50,7 +49,7 @@ no_minus_zero false n s (x ∷ w) f p some e = let digit = and_left (is_ascii_di
 normal_parted : (negative : Bool) (n s : ℕ) (w f : List ℕ) → IsParted n s w f → (negative ≡ true → 0 < n) → IsNormalForm (sign_text negative ++ plain w f)
 normal_parted negative n s w f p some =
     normal_from (sign_text negative ++ plain w f) (plain w f) w f p.digits (unsigned-plain negative w f p.digits) (whole_part-plain w f p.digits) (fraction_part-plain w f p.digits) p.first p.last
-    (point_behind negative w f p.digits) (first_byte negative w f p.digits) (no_minus_zero negative n s w f p some)
+    (point_behind w f p.digits) (first_byte negative w f p.digits) (no_minus_zero negative n s w f p some)
 
 negative_some : (z : ℤ) → is_negative z ≡ true → 0 < unsigned_abs z
 negative_some z h = grind (arith, ints)

@@ -5,14 +5,14 @@ use Rattle.std.specs.Fmt.{decimal, sign_text}
 use Rattle.std.proofs.lemmas.Fmt.{decimal_digit}
 use Rattle.std.proofs.lemmas.Nat.{div-add-mod', pow-add}
 use Rattle.std.proofs.Math.Nat.{add-mul, mul_assoc, mul_comm, mul_right_comm}
-use Rattle.sp_decimal.specs.Grammar.{value_of, has_minus}
+use Rattle.sp_decimal.specs.Grammar.{value_of, unsigned, top, bottom}
 use Rattle.sp_decimal.specs.Numerals.{numeral, fraction_numeral}
-use Rattle.sp_decimal.specs.Printing.{filled, without_zeros, printed_size, printed}
+use Rattle.sp_decimal.specs.Printing.{filled, without_zeros, printed_size, printed, HasValue}
 use Rattle.sp_decimal.proofs.DroppedZeros.{value-without_zeros, digits-without_zeros, last-without_zeros}
 use Rattle.sp_decimal.proofs.FractionLaws.{fraction_numeral-equal}
 use Rattle.sp_decimal.proofs.LastDigits.{last_digits, length-last_digits, value-last_digits, digits-last_digits}
 use Rattle.sp_decimal.proofs.NumberText.{decimal-is, decimal-first}
-use Rattle.sp_decimal.proofs.PlainText.{AreDigits, plain, numeral-plain, has_minus-plain}
+use Rattle.sp_decimal.proofs.PlainText.{AreDigits, plain, numeral-plain, has_minus-plain, unsigned-plain, top-plain, bottom-plain}
 use Rattle.sp_decimal.proofs.Powers.{power-positive}
 use Rattle.sp_decimal.proofs.PrintedText.{rest-filled}
 use Rattle.sp_decimal.proofs.RoundingLaws.{div-le}
@@ -78,6 +78,14 @@ pub printed-reads : (z : ℤ) (s : ℕ) → unsigned_abs z < 10 ^ 64 → numeral
 unfolding printed printed_size
 printed-reads z s small = reads_parted (is_negative z) (unsigned_abs z) s _ _ (parted (unsigned_abs z) s small)
 
-pub printed-has_minus : (z : ℤ) (s : ℕ) → unsigned_abs z < 10 ^ 64 → has_minus (printed z s) ≡ is_negative z
+value_parted : (negative : Bool) (n s : ℕ) (w f : List ℕ) → IsParted n s w f
+    → top (unsigned (sign_text negative ++ plain w f)) * 10 ^ s ≡ n * bottom (unsigned (sign_text negative ++ plain w f))
+value_parted negative n s w f p =
+    rw (unsigned-plain negative w f p.digits, top-plain w f p.digits, bottom-plain w f p.digits) p.value
+
+-- by the grammar the printed text is the number that was printed
+pub printed-value : (z : ℤ) (s : ℕ) → unsigned_abs z < 10 ^ 64 → HasValue (printed z s) z s
 unfolding printed printed_size
-printed-has_minus z s small = has_minus-plain (is_negative z) _ _ (parted (unsigned_abs z) s small).digits
+printed-value z s small =
+    let p = parted (unsigned_abs z) s small in
+    record { sign = has_minus-plain (is_negative z) _ _ p.digits; value = value_parted (is_negative z) (unsigned_abs z) s _ _ p }

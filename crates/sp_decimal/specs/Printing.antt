@@ -1,10 +1,10 @@
 -- The texts that numbers with decimal places are printed as.
-use Rattle.std.specs.Prelude.{◌≡◌, ◌≢◌, ℕ, ◌-◌, ◌/◌, ◌%◌, ◌^◌, IsTrue, Bool, ◌==◌, if◌then◌else◌, List, [], ◌∷◌, ◌++◌, length, slice_index, replicate, codes, ℤ, unsigned_abs}
+use Rattle.std.specs.Prelude.{◌≡◌, ◌≢◌, ℕ, ◌-◌, ◌*◌, ◌/◌, ◌%◌, ◌^◌, IsTrue, Bool, ◌==◌, if◌then◌else◌, List, [], ◌∷◌, ◌++◌, length, slice_index, replicate, codes, ℤ, unsigned_abs}
 use Rattle.std.specs.List.{list_all, list_any}
 use Rattle.std.specs.Char.{is_ascii_digit}
 use Rattle.std.specs.Int.{is_negative}
 use Rattle.std.specs.Fmt.{decimal, sign_text}
-use Rattle.sp_decimal.specs.Grammar.{some_digits, is_point, unsigned, whole_part, fraction_part}
+use Rattle.sp_decimal.specs.Grammar.{some_digits, has_minus, is_point, unsigned, whole_part, fraction_part, top, bottom}
 
 -- the digit 0
 abbrev pub is_zero : ℕ → Bool
@@ -39,6 +39,16 @@ pub record IsNormalForm (text : List ℕ) : Type 0 where
   pub first : slice_index (whole_part (unsigned text)) 0 ≡ 48 → length (whole_part (unsigned text)) ≡ 1
   pub behind : IsTrue (list_all is_ascii_digit (fraction_part (unsigned text)))
   pub last : slice_index (fraction_part (unsigned text)) (length (fraction_part (unsigned text)) - 1) ≢ 48
-  pub point : IsTrue (list_any is_point text) → fraction_part (unsigned text) ≢ []
+  pub point : IsTrue (list_any is_point (unsigned text)) → fraction_part (unsigned text) ≢ []
   pub no_plus : slice_index text 0 ≢ 43
   pub no_minus_zero : text ≢ codes "-0"
+
+-- by the grammar the text is the number z / 10^s, with a minus where that is negative
+pub record HasValue (text : List ℕ) (z : ℤ) (s : ℕ) : Type 0 where
+  pub sign : has_minus text ≡ is_negative z
+  pub value : top (unsigned text) * 10 ^ s ≡ unsigned_abs z * bottom (unsigned text)
+
+-- by the grammar the two texts are one number with one sign
+pub record HaveOneValue (a b : List ℕ) : Type 0 where
+  pub sign : has_minus a ≡ has_minus b
+  pub value : top (unsigned a) * bottom (unsigned b) ≡ top (unsigned b) * bottom (unsigned a)

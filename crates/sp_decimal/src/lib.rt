@@ -10,5 +10,5 @@ mod rounding;
 
 pub use decimals::Decimal;
 pub use numerals::{Numeral, NumeralFault};
-pub use printing::{Printed, print};
+pub use printing::{Printed, print, values_have_one_text};
 pub use rounding::{ceil, floor, scaled};

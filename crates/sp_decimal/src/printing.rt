@@ -1,9 +1,8 @@
 ghost use Rattle.std.specs.Prelude.{◌≡◌, ◌+◌, ◌-◌, ◌<◌, ◌≤◌, ◌^◌, if◌then◌else◌, [], ◌∷◌, ◌++◌, length, take, List, ℕ, ◌==◌, unsigned_abs};
 ghost use Rattle.std.specs.Fmt.{sign_text};
 ghost use Rattle.std.specs.Int.{is_negative};
-ghost use Rattle.sp_decimal.specs.Grammar.{has_minus};
 ghost use Rattle.sp_decimal.specs.Numerals.{numeral, fraction_numeral};
-ghost use Rattle.sp_decimal.specs.Printing.{printed, printed_size, without_zeros, IsNormalForm};
+ghost use Rattle.sp_decimal.specs.Printing.{printed, printed_size, without_zeros, HasValue, HaveOneValue, IsNormalForm};
 
 use itoa::Buffer;
 use std::marker::Model;
@@ -68,11 +67,17 @@ pub fn print(z: i128, s: u8) -> Printed
     requires { s ≤ 30 }
     ensures exact { result ≡ printed z s }
     ensures normal { IsNormalForm result }
-    ensures negative { has_minus result ≡ is_negative z }
+    ensures value { HasValue result z s }
     ensures reads { numeral result ≡ fraction_numeral (is_negative z) (unsigned_abs z) (10 ^ s) }
 {
     print_size(sign_of(&z), z.unsigned_abs(), s)
 }
+
+/// A value has one text in the form in which numbers are printed: two texts in it that are by the grammar one number with
+/// one sign are one text.
+pub fn values_have_one_text()
+    ensures { (a b : List ℕ) → IsNormalForm a → IsNormalForm b → HaveOneValue a b → a ≡ b }
+{}
 
 /// A minus for a negative number, and nothing for any other.
 fn sign_of(z: &i128) -> &'static [u8]

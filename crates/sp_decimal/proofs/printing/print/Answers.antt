@@ -3,7 +3,7 @@ use Rattle.std.specs.Int.{w128}
 use Rattle.std.proofs.lemmas.Int.{to_z-of_z}
 use Rattle.sp_decimal.proofs.PrintedForm.{printed-normal}
 use Rattle.sp_decimal.proofs.PrintedText.{printed_from}
-use Rattle.sp_decimal.proofs.PrintedValue.{printed-reads, printed-has_minus}
+use Rattle.sp_decimal.proofs.PrintedValue.{printed-reads, printed-value}
 use Rattle.sp_decimal.proofs.printing.print.Goals as goal
 
 pub returns : goal.returns
@@ -17,6 +17,6 @@ returns c =
     rw exact (record {
       exact = refl;
       normal = printed-normal z s (omega arith);
-      negative = printed-has_minus z s (omega arith);
+      value = printed-value z s (omega arith);
       reads = printed-reads z s (omega arith);
     })

@@ -9,7 +9,7 @@ use Rattle.std.proofs.lemmas.List.Sums.{split_at_first, passes_at_first}
 use Rattle.std.proofs.lemmas.Nat.{same_from_place}
 use Rattle.std.proofs.Math.Nat.{add-mul, mul_assoc, mul_comm, mul-lt-mul_of_pos_right}
 use Rattle.sp_decimal.specs.Grammar.{value_of, some_digits, has_minus, unsigned, is_point, whole_part, fraction_part, top, bottom}
-use Rattle.sp_decimal.specs.Printing.{with_point, IsNormalForm, HaveOneValue}
+use Rattle.sp_decimal.specs.Printing.{with_point, whole_of, behind_of, IsNormalForm, HaveOneValue}
 use Rattle.sp_decimal.proofs.OneValue.{value_of-lt, same_whole, same_behind}
 use Rattle.sp_decimal.proofs.PlainText.{AreDigits, plain, top-plain, bottom-plain}
 use Rattle.sp_decimal.proofs.PointPlaces.{and_left, and_right, before_first-none, after_first-none}
@@ -56,12 +56,6 @@ plain-parts u behind = go (list_any is_point u) refl
         let dot = is_the_point (get_or u (position_or_len is_point u) 0) (passes_at_first is_point u 0 less) in
         rw (some_behind (after_first is_point u) (behind e)) (sym (split_at_first is_point u 0 less ∙ ap (λ b. before_first is_point u ++ b ∷ after_first is_point u) dot))
     go false e = rw (before_first-none is_point u e, after_first-none is_point u e) (append-nil u)
-
-abbrev whole_of : List ℕ → List ℕ
-whole_of a = whole_part (unsigned a)
-
-abbrev behind_of : List ℕ → List ℕ
-behind_of a = fraction_part (unsigned a)
 
 normal-digits : (a : List ℕ) → IsNormalForm a → AreDigits (whole_of a) (behind_of a)
 normal-digits a n = record {

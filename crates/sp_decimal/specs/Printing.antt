@@ -32,14 +32,22 @@ printed_size n s = decimal (n / 10 ^ s) ++ with_point (without_zeros (filled s (
 unfoldable pub printed : ℤ → ℕ → List ℕ
 printed z s = sign_text (is_negative z) ++ printed_size (unsigned_abs z) s
 
+-- the digits before the point of a text with a sign or without
+abbrev pub whole_of : List ℕ → List ℕ
+whole_of text = whole_part (unsigned text)
+
+-- the digits behind that point
+abbrev pub behind_of : List ℕ → List ℕ
+behind_of text = fraction_part (unsigned text)
+
 -- the one form in which a value is printed: digits, the first of them 0 only where it is alone; behind a point, if there is one, digits, the last
 -- of them not 0; and no sign but a minus, which doesn't stand before 0
 pub record IsNormalForm (text : List ℕ) : Type 0 where
-  pub whole : IsTrue (some_digits (whole_part (unsigned text)))
-  pub first : slice_index (whole_part (unsigned text)) 0 ≡ 48 → length (whole_part (unsigned text)) ≡ 1
-  pub behind : IsTrue (list_all is_ascii_digit (fraction_part (unsigned text)))
-  pub last : slice_index (fraction_part (unsigned text)) (length (fraction_part (unsigned text)) - 1) ≢ 48
-  pub point : IsTrue (list_any is_point (unsigned text)) → fraction_part (unsigned text) ≢ []
+  pub whole : IsTrue (some_digits (whole_of text))
+  pub first : slice_index (whole_of text) 0 ≡ 48 → length (whole_of text) ≡ 1
+  pub behind : IsTrue (list_all is_ascii_digit (behind_of text))
+  pub last : slice_index (behind_of text) (length (behind_of text) - 1) ≢ 48
+  pub point : IsTrue (list_any is_point (unsigned text)) → behind_of text ≢ []
   pub no_plus : slice_index text 0 ≢ 43
   pub no_minus_zero : text ≢ codes "-0"
 

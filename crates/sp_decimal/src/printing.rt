@@ -31,9 +31,10 @@ impl Model for Printed {
 }
 
 impl Printed {
-    /// The bytes of the text, all of them ASCII.
+    /// The bytes of the text, at most 41.
     pub fn as_bytes(&self) -> &[u8]
-        ensures { result.now ≡ self.now }
+        ensures value { result.now ≡ self.now }
+        ensures short { length result.now ≤ 41 }
     {
         let (text, _) = self.bytes.split_at(self.len);
         text
@@ -60,9 +61,9 @@ impl Printed {
     }
 }
 
-/// The text of `z / 10^s` for at most thirty places, in as few digits as there are with one before the point: a minus
-/// before a negative number alone, the whole part without a zero in front but the one that stands alone, and, where
-/// the number isn't whole, a point and the digits up to the last that isn't 0.
+/// The text of `z / 10^s`, with `s` at most 30: a minus before a negative number alone, the whole part without a zero in
+/// front but the one that stands alone, and, where the number isn't whole, a point and the digits up to the last that
+/// isn't 0. It takes no memory.
 pub fn print(z: i128, s: u8) -> Printed
     requires { s ≤ 30 }
     ensures exact { result ≡ printed z s }

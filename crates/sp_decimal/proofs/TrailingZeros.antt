@@ -1,7 +1,6 @@
 -- Digits without the zeros at their end.
-use Rattle.std.proofs.Common.{◌≡◌, ◌≢◌, ℕ, zero, suc, ◌+◌, ◌-◌, ◌<◌, ◌≤◌, Bool, true, false, if◌then◌else◌, ◌==◌, List, [], ◌∷◌, ◌++◌, length, get_or, take, drop, replicate, refl, ◌∙◌, arith}
+use Rattle.std.proofs.Common.{◌≡◌, ◌≢◌, ℕ, zero, suc, ◌-◌, ◌<◌, ◌≤◌, Bool, true, false, if◌then◌else◌, ◌==◌, List, [], ◌∷◌, ◌++◌, length, get_or, take, drop, replicate, refl, ◌∙◌, arith}
 use Rattle.std.specs.List.{list_all}
-use Rattle.std.proofs.lemmas.List.{drop_more}
 use Rattle.std.proofs.lemmas.List.Folds.{list_all_at}
 use Rattle.std.proofs.lemmas.Bool.Decides.{nat_tests}
 use native.Mathlib.Numerals.{unary_clauses}
@@ -9,12 +8,6 @@ use Rattle.sp_decimal.specs.Printing.{is_zero, without_zeros, with_point}
 
 not_zero : (d : ℕ) → d ≢ 48 → is_zero d ≡ false
 not_zero d h = grind (arith, nat_tests)
-
--- one more zero at the end
-pub zeros_more : (xs : List ℕ) (n : ℕ) → 0 < n → n ≤ length xs → get_or xs (n - 1) 0 ≡ 48 → list_all is_zero (drop n xs) ≡ true → list_all is_zero (drop (n - 1) xs) ≡ true
-zeros_more xs n p h e z =
-    let next : n - 1 + 1 ≡ n = omega arith in
-    rw (drop_more xs (n - 1) 0 (omega arith), next, e) z
 
 -- all of them zeros
 pub without_zeros-zeros : (xs : List ℕ) → list_all is_zero xs ≡ true → without_zeros xs ≡ []

@@ -1,4 +1,4 @@
-ghost use Rattle.std.specs.Prelude.{◌≡◌, ◌-◌, ◌^◌, ◌<◌, ◌≤◌, pos, ◌*ℤ◌, SomeIff, FitsSigned};
+ghost use Rattle.std.specs.Prelude.{◌≡◌, ◌-◌, ◌^◌, ◌<◌, ◌≤◌, pos, ◌*ℤ◌, unsigned_abs, SomeIff, FitsSigned};
 ghost use Rattle.std.specs.Int.{w128};
 ghost use Rattle.sp_decimal.specs.Rounding.{IsFloor, IsCeil};
 
@@ -49,9 +49,10 @@ pub fn scaled(d: &Decimal, s: u8) -> Option<i128>
     d.p.checked_mul(power_of_ten(s - d.s) as i128)
 }
 
-/// The greatest whole number that isn't above the decimal.
+/// The greatest whole number that isn't above the decimal. Its magnitude is below 10^30.
 pub fn floor(d: &Decimal) -> i128
-    ensures { IsFloor d.now result }
+    ensures greatest { IsFloor d.now result }
+    ensures small { unsigned_abs result < 10 ^ 30 }
 {
     let unit = power_of_ten(d.s);
     let size = d.p.unsigned_abs();
@@ -62,9 +63,10 @@ pub fn floor(d: &Decimal) -> i128
     }
 }
 
-/// The least whole number that isn't below the decimal.
+/// The least whole number that isn't below the decimal. Its magnitude is below 10^30.
 pub fn ceil(d: &Decimal) -> i128
-    ensures { IsCeil d.now result }
+    ensures least { IsCeil d.now result }
+    ensures small { unsigned_abs result < 10 ^ 30 }
 {
     let unit = power_of_ten(d.s);
     let size = d.p.unsigned_abs();

@@ -4,8 +4,8 @@ use Rattle.sp_decimal.specs.DecimalFraction.{DecimalFraction}
 use Rattle.sp_decimal.proofs.RoundingLaws.{floor_positive, floor_negative, div_ceil-le, div-le}
 use Rattle.sp_decimal.proofs.rounding.floor.Goals as goal
 
-pub returns-then-d-lt0 : goal.returns-then-d-lt0
-returns-then-d-lt0 c =
+pub returns-then-d-lt0-clause-greatest : goal.returns-then-d-lt0-clause-greatest
+returns-then-d-lt0-clause-greatest c =
     let n = c.unsigned_abs-size.result in
     let t = c.power_of_ten-unit.result in
     let less = div_ceil-le n t c.power_of_ten-unit.ensures.positive in
@@ -13,8 +13,8 @@ returns-then-d-lt0 c =
     floor_negative _ n t _ (ap (λ (d : DecimalFraction). d.p) (sym c.d.view_is) ∙ size)
     (c.power_of_ten-unit.ensures.value ∙ ap (λ (d : DecimalFraction). 10 ^ d.s) c.d.view_is) c.power_of_ten-unit.ensures.positive (omega (arith, ints))
 
-pub returns-else-d-lt0 : goal.returns-else-d-lt0
-returns-else-d-lt0 c =
+pub returns-else-d-lt0-clause-greatest : goal.returns-else-d-lt0-clause-greatest
+returns-else-d-lt0-clause-greatest c =
     let n = c.unsigned_abs-size.result in
     let t = c.power_of_ten-unit.result in
     let less = div-le n t c.power_of_ten-unit.ensures.positive in

@@ -1,7 +1,9 @@
 pub mod DecimalFraction
 pub mod Grammar
 pub mod Numerals
-pub mod Readings
 pub mod Parts
-pub mod Significands
 pub mod Places
+pub mod Printing
+pub mod Readings
+pub mod Rounding
+pub mod Significands

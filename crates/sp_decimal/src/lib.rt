@@ -3,15 +3,20 @@
 
 mod decimals;
 mod numeral_laws;
+#[cfg(test)]
+mod numeral_tests;
 mod numerals;
 mod parts;
 mod places;
+mod printing;
+#[cfg(test)]
+mod printing_tests;
 mod reading;
+mod rounding;
 mod significands;
 
 pub use decimals::Decimal;
 pub use numeral_laws::{reading_is_what_answer_says, written_is_exact};
 pub use numerals::{Numeral, NumeralFault};
-
-#[cfg(test)]
-mod numeral_tests;
+pub use printing::{Printed, print, values_have_one_text};
+pub use rounding::{ceil, floor, scaled};

@@ -1,7 +1,7 @@
 use crate::{Numeral, NumeralFault};
 use std::process::Abort;
 
-// What a text should be read as.
+/// What a text should be read as.
 #[derive(Clone, Copy, PartialEq, Eq, Debug)]
 enum Answer {
     Exact(i128, u8),
@@ -110,7 +110,7 @@ fn told(text: &[u8]) -> Answer {
     }
 }
 
-// The place of the first text that is read as something else.
+/// The place of the first text that is read as something else.
 fn first_wrong(texts: &[(&[u8], Answer)]) -> Option<usize> {
     texts
         .iter()

@@ -6,7 +6,7 @@ ghost use Rattle.std.specs.Char.{is_ascii_digit};
 ghost use Rattle.sp_decimal.specs.Grammar.{has_minus, unsigned, is_infinity, some_digits, is_plain_numeral};
 ghost use Rattle.sp_decimal.specs.Parts.{IsDigitRun, BeginsWith, power_behind, IsCut};
 
-// Whether a minus stands first, and the text without the sign that it may begin with.
+/// Whether a minus stands first, and the text without the sign that it may begin with.
 pub(crate) fn split_sign(text: &[u8]) -> (bool, &[u8])
     ensures negative { result.0 ≡ has_minus text.now }
     ensures rest { result.1.now ≡ unsigned text.now }
@@ -18,14 +18,14 @@ pub(crate) fn split_sign(text: &[u8]) -> (bool, &[u8])
     }
 }
 
-// Whether the text is a word for a number without end.
+/// Whether the text is a word for a number without end.
 pub(crate) fn is_endless(text: &[u8]) -> bool
     ensures { result ≡ is_infinity text.now }
 {
     text.eq_ignore_ascii_case(b"inf") || text.eq_ignore_ascii_case(b"infinity")
 }
 
-// How many digits stand first.
+/// How many digits stand first.
 fn digit_count(text: &[u8]) -> usize
     ensures { result ≡ position_or_len (λ b. not (is_ascii_digit b)) text.now }
 {
@@ -37,7 +37,7 @@ fn digit_count(text: &[u8]) -> usize
     text.len()
 }
 
-// The digits that stand first, and the rest.
+/// The digits that stand first, and the rest.
 #[tactic(auto, using(crate::proofs::DigitRuns::runs))]
 fn split_digits(text: &[u8]) -> (&[u8], &[u8])
     ensures { IsDigitRun text.now result.0.now result.1.now }
@@ -45,7 +45,7 @@ fn split_digits(text: &[u8]) -> (&[u8], &[u8])
     text.split_at(digit_count(text))
 }
 
-// Whether the text is one digit or more.
+/// Whether the text is one digit or more.
 #[tactic(auto, using(crate::proofs::DigitRuns::runs))]
 fn is_digits(text: &[u8]) -> bool
     ensures { result ≡ some_digits text.now }
@@ -53,7 +53,7 @@ fn is_digits(text: &[u8]) -> bool
     1 <= text.len() && digit_count(text) == text.len()
 }
 
-// The mantissa that a text begins with, and what stands behind it.
+/// The mantissa that a text begins with, and what stands behind it.
 #[derive(Clone, Copy)]
 struct Mantissa<'a> {
     whole: &'a [u8],
@@ -72,7 +72,7 @@ pub(crate) struct Parts<'a> {
     pub(crate) exponent: &'a [u8],
 }
 
-// The digits that stand first, with those behind a full stop that ends them.
+/// The digits that stand first, with those behind a full stop that ends them.
 fn split_mantissa(text: &[u8]) -> Mantissa<'_>
     ensures { BeginsWith text.now result.whole.now result.fraction.now result.rest.now }
 {
@@ -94,7 +94,7 @@ fn split_mantissa(text: &[u8]) -> Mantissa<'_>
     }
 }
 
-// Whether the text is an exponent: digits, with a sign or without.
+/// Whether the text is an exponent: digits, with a sign or without.
 fn is_exponent(text: &[u8]) -> bool
     ensures { result ≡ some_digits (unsigned text.now) }
 {
@@ -102,7 +102,7 @@ fn is_exponent(text: &[u8]) -> bool
     is_digits(digits)
 }
 
-// What stands behind an exponent's letter that begins the text, or nothing of an empty text.
+/// What stands behind an exponent's letter that begins the text, or nothing of an empty text.
 fn power_of(text: &[u8]) -> Option<&[u8]>
     ensures { option_map (λ power. power.now) result ≡ power_behind text.now }
 {
@@ -113,14 +113,14 @@ fn power_of(text: &[u8]) -> Option<&[u8]>
     }
 }
 
-// Whether there is no digit on either side of the full stop.
+/// Whether there is no digit on either side of the full stop.
 fn has_none(whole: &[u8], fraction: &[u8]) -> bool
     ensures { not result ≡ nat_le 1 (length (whole.now ++ fraction.now)) }
 {
     whole.is_empty() && fraction.is_empty()
 }
 
-// The parts of a plain numeral.
+/// The parts of a plain numeral.
 pub(crate) fn cut(text: &[u8]) -> Option<Parts<'_>>
     ensures plain { is_some result ≡ is_plain_numeral text.now }
     ensures parts { IfSome result (λ p. IsCut text.now p.whole.now p.fraction.now p.exponent.now) }

@@ -39,7 +39,7 @@ pub(crate) struct Shift {
     pub(crate) lowered: u128,
 }
 
-// The number of the digits, or `FAR` where it is greater.
+/// The number of the digits, or `FAR` where it is greater.
 fn capped(digits: &[u8]) -> u128
     requires { list_all is_ascii_digit digits.now ≡ true }
     ensures { result ≡ min (value_of digits.now) FAR }

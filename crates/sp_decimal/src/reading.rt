@@ -13,7 +13,7 @@ use crate::parts::Parts;
 use crate::places::{Place, place_of, shift_of};
 use crate::significands::{Stripped, number, strip};
 
-// The number of the digits, with the sign.
+/// The number of the digits, with the sign.
 fn with_sign(negative: bool, digits: u128) -> i128
     requires { digits < 10 ^ 30 }
     ensures { result ≡ signed negative digits }
@@ -22,7 +22,7 @@ fn with_sign(negative: bool, digits: u128) -> i128
     if negative { -p } else { p }
 }
 
-// The decimal of these digits, of which so many stand behind the point.
+/// The decimal of these digits, of which so many stand behind the point.
 fn decimal(negative: bool, digits: u128, places: u8) -> Decimal
     requires small { digits < 10 ^ 30 }
     requires short { places ≤ 30 }
@@ -35,7 +35,7 @@ fn decimal(negative: bool, digits: u128, places: u8) -> Decimal
     }
 }
 
-// The number of the digits of both, with zeros behind them.
+/// The number of the digits of both, with zeros behind them.
 fn whole_number(head: &[u8], tail: &[u8], zeros: u32) -> u128
     requires head { list_all is_ascii_digit head.now ≡ true }
     requires tail { list_all is_ascii_digit tail.now ≡ true }

@@ -6,7 +6,7 @@ ghost use Rattle.std.specs.Char.{is_ascii_digit};
 ghost use Rattle.sp_decimal.specs.Grammar.{value_of};
 ghost use Rattle.sp_decimal.specs.Significands.{number_of, IsFrontTrimmed, IsBackTrimmed, IsStripped};
 
-// The digits without the zeros that stand first.
+/// The digits without the zeros that stand first.
 fn without_leading_zeros(digits: &[u8]) -> &[u8]
     requires { list_all is_ascii_digit digits.now ≡ true }
     ensures { IsFrontTrimmed digits.now result.now }
@@ -19,7 +19,7 @@ fn without_leading_zeros(digits: &[u8]) -> &[u8]
     &[]
 }
 
-// The digits without the zeros that stand last.
+/// The digits without the zeros that stand last.
 fn without_trailing_zeros(digits: &[u8]) -> &[u8]
     requires { list_all is_ascii_digit digits.now ≡ true }
     ensures { IsBackTrimmed digits.now result.now }
@@ -45,7 +45,7 @@ pub(crate) struct Stripped<'a> {
     pub(crate) zeros: u128,
 }
 
-// The digits without the zeros around them.
+/// The digits without the zeros around them.
 pub(crate) fn strip<'a>(whole: &'a [u8], fraction: &'a [u8]) -> Stripped<'a>
     requires whole { list_all is_ascii_digit whole.now ≡ true }
     requires fraction { list_all is_ascii_digit fraction.now ≡ true }
@@ -73,7 +73,7 @@ pub(crate) fn strip<'a>(whole: &'a [u8], fraction: &'a [u8]) -> Stripped<'a>
     Stripped { head, tail, zeros }
 }
 
-// The number of the digits behind those of `value`.
+/// The number of the digits behind those of `value`.
 fn append(value: u128, digits: &[u8]) -> u128
     requires digits { list_all is_ascii_digit digits.now ≡ true }
     requires fits { (value + 1) * 10 ^ length digits.now ≤ 10 ^ 38 }

@@ -1,0 +1,14 @@
+pub mod FeedLaws
+pub mod GapLaws
+pub mod KindsApart
+pub mod LineLaws
+pub mod LongestLaws
+pub mod NameFronts
+pub mod NextLaws
+pub mod NumberLaws
+pub mod NumeralFronts
+pub mod NumeralLeft
+pub mod OneList
+pub mod PieceLaws
+pub mod SymbolFronts
+pub mod TokenLaws

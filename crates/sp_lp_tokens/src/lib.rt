@@ -1,0 +1,20 @@
+//! The tokens of CPLEX LP files: names, numbers and symbols by longest match, with their lines.
+#![tactic(auto)]
+
+mod gaps;
+mod kinds;
+#[cfg(test)]
+mod length_tests;
+mod lengths;
+mod numeral_places;
+mod pieces;
+mod reading;
+mod symbols;
+mod token_laws;
+#[cfg(test)]
+mod token_tests;
+
+pub use kinds::{Token, TokenKind, TokenKindFault, TokenRefusal};
+pub use reading::tokens;
+pub use symbols::Symbol;
+pub use token_laws::tokens_are_unique;

@@ -1,0 +1,9 @@
+ghost use Rattle.std.specs.Prelude.{◌≡◌, ℕ, List};
+ghost use Rattle.sp_lp_tokens.specs.declared.kinds.Token.{Token};
+ghost use Rattle.sp_lp_tokens.specs.Tokens.{Ending, TokensFrom};
+
+/// A file has at most one list of tokens, and it ends in one way.
+pub fn tokens_are_unique()
+    ensures { (source : List ℕ) (ts us : List Token) (a b : Ending) →
+        TokensFrom source 0 0 ts a → TokensFrom source 0 0 us b → (ts ≡ us) × (a ≡ b) }
+{}

@@ -6,6 +6,7 @@ use Rattle.std.proofs.lemmas.Bool.Decides.{nat_tests}
 use Rattle.std.specs.List.{list_all, list_any, position_or_len, before_first, after_first}
 use Rattle.std.specs.Char.{is_ascii_digit}
 use Rattle.sp_decimal.specs.Grammar.{is_point, is_exponent_letter, some_digits, unsigned, mantissa, exponent, whole_part, fraction_part, is_mantissa, is_plain_numeral}
+use Rattle.sp_decimal.proofs.DigitRuns.{both}
 use Rattle.sp_decimal.specs.Parts.{BeginsWith, power_behind, IsCut}
 
 one_more : (n : ℕ) → 1 + n ≡ suc n
@@ -14,10 +15,6 @@ one_more n = omega arith
 no_or : (a b : Bool) → (a || b) ≡ false → (a ≡ false) × (b ≡ false)
 no_or true b e = absurd (cc)
 no_or false b e = (refl, e)
-
-both : (a b : Bool) → (a && b) ≡ true → (a ≡ true) × (b ≡ true)
-both true b e = (refl, e)
-both false b e = absurd (cc)
 
 -- a first element that the test passes over
 before-past : (p : ℕ → Bool) (x : ℕ) (xs : List ℕ) → p x ≡ false → before_first p (x ∷ xs) ≡ x ∷ before_first p xs

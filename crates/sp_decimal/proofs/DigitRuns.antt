@@ -8,6 +8,11 @@ use Rattle.std.specs.Char.{is_ascii_digit}
 use Rattle.sp_decimal.specs.Grammar.{some_digits}
 use Rattle.sp_decimal.specs.Parts.{starts_with_digit, IsDigitRun}
 
+-- both sides of `&&` hold where it does
+pub both : (a b : Bool) → (a && b) ≡ true → (a ≡ true) × (b ≡ true)
+both true b e = (refl, e)
+both false b e = absurd (cc)
+
 abbrev run_length : List ℕ → ℕ
 run_length xs = position_or_len (λ b. not (is_ascii_digit b)) xs
 

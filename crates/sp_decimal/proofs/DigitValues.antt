@@ -1,5 +1,5 @@
 -- The numbers that digits stand for.
-use Rattle.std.proofs.Common.{◌≡◌, ◌≢◌, ℕ, zero, suc, ◌+◌, ◌-◌, ◌*◌, ◌%◌, ◌^◌, ◌<◌, ◌≤◌, Bool, true, false, ◌&&◌, List, [], ◌∷◌, length, get_or, take, drop, fold, refl, sym, ap, ◌∙◌, arith, add-one}
+use Rattle.std.proofs.Common.{◌≡◌, ◌≢◌, ℕ, zero, suc, ◌+◌, ◌-◌, ◌*◌, ◌%◌, ◌^◌, ◌<◌, ◌≤◌, true, List, [], ◌∷◌, length, get_or, take, drop, fold, refl, sym, ap, ◌∙◌, arith, add-one}
 use Rattle.std.proofs.Math.Nat.{pow-suc, mul-le-mul_right, mul-le-mul_left, pow-le-pow_right}
 use Rattle.std.proofs.lemmas.Nat.{pow-add}
 use Rattle.std.proofs.lemmas.Bool.Decides.{nat_tests}
@@ -7,12 +7,9 @@ use Rattle.std.proofs.lemmas.List.{drop_more, length-take-le}
 use Rattle.std.proofs.lemmas.List.Sums.{fold_more}
 use Rattle.std.specs.List.{list_all}
 use Rattle.std.specs.Char.{is_ascii_digit}
+use Rattle.sp_decimal.proofs.DigitRuns.{both}
 use Rattle.sp_decimal.specs.Grammar.{value_of}
 use Rattle.sp_decimal.specs.Significands.{IsBackTrimmed}
-
-both : (a b : Bool) → (a && b) ≡ true → (a ≡ true) × (b ≡ true)
-both true b e = (refl, e)
-both false b e = absurd (cc)
 
 pub digit-range : (b : ℕ) → is_ascii_digit b ≡ true → (48 ≤ b) × (b ≤ 57)
 digit-range b h = grind (arith, nat_tests)
@@ -115,18 +112,16 @@ pub room-at : (a v i : ℕ) (xs : List ℕ) (limit : ℕ) → i < length xs → 
     → HasRoom a v i (length xs) (get_or xs i 0 - 48) limit
 room-at a v i xs limit l h k all = let d = digit-range (get_or xs i 0) (digit-at i xs l h) in room-step a v i (length xs) (get_or xs i 0 - 48) limit l (omega arith) k all
 
--- room for both pieces of a number of at most 38 digits
-pub room-head : (h t : ℕ) → h + t ≤ 38 → (0 + 1) * 10 ^ h ≤ 10 ^ 38
-room-head h t le = omega (arith, pow-le-pow_right {n = 10} (omega arith) {i = h} {j = 38} (omega arith))
+-- room for both pieces of a number of at most k digits
+pub room-head : (h t k : ℕ) → h + t ≤ k → 1 * 10 ^ h ≤ 10 ^ k
+room-head h t k le = omega (arith, pow-le-pow_right {n = 10} (omega arith) {i = h} {j = k} (omega arith))
 
-pub room-tail : (v : ℕ) (hs ts : List ℕ) → list_all is_ascii_digit hs ≡ true → length hs + length ts ≤ 38 → v ≡ 0 * 10 ^ length hs + value_of hs → (v + 1) * 10 ^ length ts ≤ 10 ^ 38
-room-tail v hs ts all le e =
+pub room-tail : (v : ℕ) (hs ts : List ℕ) (k : ℕ) → list_all is_ascii_digit hs ≡ true → length hs + length ts ≤ k → v ≡ 0 * 10 ^ length hs + value_of hs → (v + 1) * 10 ^ length ts ≤ 10 ^ k
+room-tail v hs ts k all le e =
     let lt = value-lt hs all in
     let m : (v + 1) * 10 ^ length ts ≤ 10 ^ length hs * 10 ^ length ts = mul-le-mul_right (10 ^ length ts) (omega arith) in
     let p : 10 ^ (length hs + length ts) ≡ 10 ^ length hs * 10 ^ length ts = pow-add 10 (length hs) (length ts) in
-    omega (arith, m, p, pow-le-pow_right {n = 10} (omega arith) {i = length hs + length ts} {j = 38} le)
-
-pub ruleset append_rules = (room-head, room-tail)
+    omega (arith, m, p, pow-le-pow_right {n = 10} (omega arith) {i = length hs + length ts} {j = k} le)
 
 pub back-trimmed : (xs : List ℕ) (end : ℕ) → list_all is_ascii_digit xs ≡ true → 0 < end → end ≤ length xs → get_or xs (end - 1) 0 ≢ 48 → value_of xs ≡ value_of (take end xs) * 10 ^ (length xs - end)
     → IsBackTrimmed xs (take end xs)

@@ -1,6 +1,6 @@
 //! A text, cut into the parts of a numeral.
 
-ghost use Rattle.std.specs.Prelude.{◌≡◌, ◌&&◌, not, true, IfSome, is_some, option_map, nat_le, length, ◌++◌, List, ℕ};
+ghost use Rattle.std.specs.Prelude.{◌≡◌, not, true, IfSome, is_some, option_map, nat_le, length, ◌++◌, List, ℕ};
 ghost use Rattle.std.specs.List.{position_or_len, list_all};
 ghost use Rattle.std.specs.Char.{is_ascii_digit};
 ghost use Rattle.sp_decimal.specs.Grammar.{has_minus, unsigned, is_infinity, some_digits, is_plain_numeral};
@@ -124,7 +124,8 @@ fn has_none(whole: &[u8], fraction: &[u8]) -> bool
 pub(crate) fn cut(text: &[u8]) -> Option<Parts<'_>>
     ensures plain { is_some result ≡ is_plain_numeral text.now }
     ensures parts { IfSome result (λ p. IsCut text.now p.whole.now p.fraction.now p.exponent.now) }
-    ensures digits { IfSome result (λ p. list_all is_ascii_digit p.whole.now && list_all is_ascii_digit p.fraction.now ≡ true) }
+    ensures whole { IfSome result (λ p. list_all is_ascii_digit p.whole.now ≡ true) }
+    ensures fraction { IfSome result (λ p. list_all is_ascii_digit p.fraction.now ≡ true) }
     ensures power { IfSome result (λ p. list_all is_ascii_digit (unsigned p.exponent.now) ≡ true) }
 {
     let Mantissa {

@@ -86,13 +86,29 @@ fn append(value: u128, digits: &[u8]) -> u128
     value
 }
 
+// The same in one word of the machine.
+fn append_short(value: u64, digits: &[u8]) -> u64
+    requires digits { list_all is_ascii_digit digits.now ≡ true }
+    requires fits { (value + 1) * 10 ^ length digits.now ≤ 10 ^ 19 }
+    ensures { result ≡ value * 10 ^ length digits.now + value_of digits.now }
+{
+    let mut value = value;
+    for digit in digits {
+        value = 10 * value + u64::from(*digit - b'0');
+    }
+    value
+}
+
 /// The number of the digits of both.
-#[tactic(auto, using(crate::proofs::DigitValues::append_rules))]
 pub(crate) fn number(head: &[u8], tail: &[u8]) -> u128
     requires head { list_all is_ascii_digit head.now ≡ true }
     requires tail { list_all is_ascii_digit tail.now ≡ true }
     requires short { length head.now + length tail.now ≤ 38 }
     ensures { result ≡ number_of head.now tail.now }
 {
-    append(append(0, head), tail)
+    if head.len() + tail.len() <= 19 {
+        u128::from(append_short(append_short(0, head), tail))
+    } else {
+        append(append(0, head), tail)
+    }
 }

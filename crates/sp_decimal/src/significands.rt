@@ -86,7 +86,7 @@ fn append(value: u128, digits: &[u8]) -> u128
     value
 }
 
-// The same in one word of the machine.
+/// The same in one word of the machine.
 fn append_short(value: u64, digits: &[u8]) -> u64
     requires digits { list_all is_ascii_digit digits.now ≡ true }
     requires fits { (value + 1) * 10 ^ length digits.now ≤ 10 ^ 19 }

@@ -10,5 +10,6 @@ pub mod NumeralFronts
 pub mod NumeralLeft
 pub mod OneList
 pub mod PieceLaws
+pub mod SomeList
 pub mod SymbolFronts
 pub mod TokenLaws

@@ -17,4 +17,4 @@ mod token_tests;
 pub use kinds::{Token, TokenKind, TokenKindFault, TokenRefusal};
 pub use reading::tokens;
 pub use symbols::Symbol;
-pub use token_laws::tokens_are_unique;
+pub use token_laws::{files_have_tokens, tokens_are_unique};

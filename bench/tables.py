@@ -2,6 +2,7 @@
 import os
 import pathlib
 import platform
+import shutil
 import subprocess
 import sys
 import time
@@ -22,31 +23,43 @@ def built(name):
     return program
 
 
-def seconds_and_text(program, words, folder):
-    """Runs the program once: its wall clock seconds, and its standard output."""
+def seconds_and_text(program, words, folder, given=os.devnull):
+    """Runs the program once on the file `given` as standard input: its wall clock seconds, and its standard output."""
     output = pathlib.Path(folder) / "printed"
-    with open(output, "wb") as sink:
+    with open(given, "rb") as source, open(output, "wb") as sink:
         start = time.perf_counter()
-        subprocess.run([str(program), *words], cwd=folder, stdin=subprocess.DEVNULL, stdout=sink, check=False)
+        subprocess.run([str(program), *words], cwd=folder, stdin=source, stdout=sink, check=False)
         seconds = time.perf_counter() - start
     return seconds, output.read_bytes()
 
 
-def best(program, words, folder, runs=3):
+def best(program, words, folder, runs=3, given=os.devnull):
     """The least wall clock time of some runs, and what the last one printed."""
-    results = [seconds_and_text(program, words, folder) for _ in range(runs)]
+    results = [seconds_and_text(program, words, folder, given) for _ in range(runs)]
     return min(r[0] for r in results), results[-1][1]
 
 
-def peak(program, words, folder):
+def peak(program, words, folder, given=os.devnull):
     """The peak of the memory that the program holds, in KiB, or None without /usr/bin/time. A small parent asks for it,
     since the system counts what the parent held when it started the program."""
     if not os.access("/usr/bin/time", os.X_OK):
         return None
     note = pathlib.Path(folder) / "peak"
-    subprocess.run(["/usr/bin/time", "-f", "%M", "-o", str(note), str(program), *words], cwd=folder,
-                   stdin=subprocess.DEVNULL, stdout=subprocess.DEVNULL, stderr=subprocess.DEVNULL, check=False)
+    with open(given, "rb") as source:
+        subprocess.run(["/usr/bin/time", "-f", "%M", "-o", str(note), str(program), *words], cwd=folder, stdin=source,
+                       stdout=subprocess.DEVNULL, stderr=subprocess.DEVNULL, check=False)
     return int(note.read_text().split()[-1])
+
+
+def rust_program(name, folder):
+    """Builds bench/NAME.rs into the folder: the built program, and the compiler in a few words."""
+    if shutil.which("rustc") is None:
+        sys.exit(f"no rustc to build bench/{name}.rs with")
+    program = pathlib.Path(folder) / name
+    source = TOP / "bench" / f"{name}.rs"
+    subprocess.run(["rustc", "-O", "--edition", "2021", "-o", str(program), str(source)], check=True)
+    told = subprocess.run(["rustc", "--version"], capture_output=True, text=True, check=True).stdout
+    return program, told.split(" (")[0]
 
 
 def machine():

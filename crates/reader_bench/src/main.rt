@@ -1,0 +1,38 @@
+//! `reader_bench read|print ROUNDS` reads, or prints, so many numbers of ten digits and prints a checksum of what came out.
+//! `reader_bench tokens|list` cuts standard input into tokens, and prints their number, or a line for each.
+//! The scripts `bench/decimal.py`, `bench/tokens.py` and `scripts/compare_tokens.py` run it.
+#![tactic(auto)]
+
+mod inputs;
+mod listing;
+mod numbers;
+mod words;
+
+use anyhow::Result;
+use inputs::file_of;
+use listing::{count_tokens, list_tokens};
+use numbers::{checksum_of_printing, checksum_of_reading};
+use words::{Command, command_of};
+
+fn main(rt: HostRuntime) -> Result<()> {
+    let alloc = rt.alloc();
+    match command_of(&rt)? {
+        Command::Read(rounds) => {
+            let sum = checksum_of_reading(rounds);
+            println!(rt; "checksum {sum}")?;
+        }
+        Command::Print(rounds) => {
+            let sum = checksum_of_printing(rounds);
+            println!(rt; "checksum {sum}")?;
+        }
+        Command::Tokens => {
+            let file = file_of(alloc, rt.stdin())?;
+            count_tokens(&rt, alloc, file.as_slice())?;
+        }
+        Command::List => {
+            let file = file_of(alloc, rt.stdin())?;
+            list_tokens(&rt, alloc, file.as_slice())?;
+        }
+    }
+    Ok(())
+}

@@ -56,56 +56,74 @@ def count(text):
     return int(number)
 
 
-def lines(proved, plain, folder, size):
-    """The lines of the table for one size."""
-    file = pathlib.Path(folder) / f"{size}.lp"
-    length = write_file(file, size)
-    given = str(file)
-    here, printed = best(proved, ["tokens"], folder, given=given)
-    there, wanted = best(plain, [], folder, given=given)
-    words, _ = best(shutil.which("wc"), ["-w"], folder, given=given)
-    number = count(printed)
-    if number != count(wanted):
-        sys.exit(f"the two tokenizers print {printed} and {wanted}")
-    held = [peak(program, arguments, folder, given) for program, arguments in
-            [(proved, ["tokens"]), (plain, []), (shutil.which("wc"), ["-w"])]]
-    table = []
-    for name, seconds, memory in zip(["proved", "Rust", "`wc -w`"], [here, there, words], held):
-        shown = "-" if memory is None else f"{memory / 1024:.0f}"
-        each = f"{seconds / number * 1e9:.1f}" if name != "`wc -w`" else "-"
-        table.append(f"| {length / MEBI:.0f} MiB, {number:,} tokens | {name} | {seconds:.3f} | "
-                     f"{length / 1e6 / seconds:.0f} | {each} | {shown} |")
-    return table, here, there, length / number
+def measured(program, words, folder, given):
+    """Runs a tokenizer on a file: the seconds, the number of tokens, and the peak of memory in KiB or None."""
+    seconds, printed = best(program, words, folder, given=given)
+    return seconds, count(printed), peak(program, words, folder, given)
+
+
+def line(label, name, length, seconds, number, held):
+    """A line of the table."""
+    each = "-" if number is None else f"{seconds / number * 1e9:.1f}"
+    shown = "-" if held is None else f"{held / 1024:.0f}"
+    return f"| {label} | {name} | {seconds:.3f} | {length / 1e6 / seconds:.0f} | {each} | {shown} |"
+
+
+def compared(proved, plain, folder, file, sort):
+    """The lines of the table for one file, and what was measured of the two tokenizers."""
+    length, given = file.stat().st_size, str(file)
+    here = measured(proved, ["tokens"], folder, given)
+    there = measured(plain, [], folder, given)
+    if here[1] != there[1]:
+        sys.exit(f"{file.name}: the two tokenizers find {here[1]} and {there[1]} tokens")
+    counter = shutil.which("wc")
+    words = best(counter, ["-w"], folder, given=given)[0], None, peak(counter, ["-w"], folder, given)
+    label = f"{length / MEBI:.0f} MiB of {sort}, {here[1]:,} tokens"
+    table = [line(label, name, length, *each) for name, each in
+             [("proved", here), ("Rust", there), ("`wc -w`", words)]]
+    return table, here, there
 
 
 def main():
     proved = built("reader_bench")
-    table, seconds = [], {}
+    table, found, lengths = [], [], []
     with tempfile.TemporaryDirectory() as folder:
         plain, rust = rust_program("token_bench", folder)
+        file = pathlib.Path(folder) / "model.lp"
         for size in SIZES:
-            rows, here, there, each = lines(proved, plain, folder, size)
+            lengths.append(write_file(file, size))
+            rows, here, there = compared(proved, plain, folder, file, "rows")
             table += rows
-            seconds[size] = here, there
+            found.append((here, there))
+        file.write_bytes(b"+" * (SIZES[0] * MEBI))
+        table += compared(proved, plain, folder, file, "`+`")[0]
     few, many = SIZES
+    (here_few, there_few), (here_many, there_many) = found
     text = f"""## The tokens of an LP file
 
-Written by `bench/tokens.py`, on {machine()}. The file has rows of two to eight terms, decimals, exponents and
-comments, and {each:.1f} bytes a token. Seconds are the least of three runs of a whole process, which reads standard input
-from a file. Beside it a plain tokenizer in Rust ({rust}, `-O`), which reads numbers as floats, and `wc -w`, which
-counts words and makes no list. MB are millions of bytes, and memory is the peak as `/usr/bin/time` tells it.
+Written by `bench/tokens.py`, on {machine()}. The rows have two to eight terms, decimals, exponents
+and comments, and {lengths[1] / here_many[1]:.1f} bytes a token; the last file has a token in each byte. Seconds are the least of three runs of a whole
+process, which reads standard input from a file. Beside it a plain tokenizer in Rust ({rust}, `-O`), which reads numbers
+as floats, and `wc -w`, which counts words and makes no list. MB are millions of bytes, and memory is the peak as
+`/usr/bin/time` tells it.
 
 | File | Program | Seconds | MB a second | ns a token | Peak memory, MiB |
 |---|---|---|---|---|---|
 """ + "\n".join(table) + f"""
 
-{many} MiB take {seconds[many][0] / seconds[few][0]:.2f} times as long as {few} MiB here, and {seconds[many][1] / seconds[few][1]:.2f} \
-times in Rust: the time grows with the file's length. The proved
-tokenizer takes {seconds[many][0] / seconds[many][1]:.2f} times what the one in Rust does on {many} MiB. Memory is the file and its tokens, both in lists that
-grow by doubling.
+{many} MiB of rows take {here_many[0] / here_few[0]:.2f} times as long as {few} MiB here, and {there_many[0] / there_few[0]:.2f} \
+times in Rust: the time grows with the length of
+the file. On {many} MiB the proved tokenizer takes {here_many[0] / there_many[0]:.2f} times what the one in Rust does.
+"""
+    if here_many[2] is not None:
+        held = [(many[2] - few[2]) * 1024 - (lengths[1] - lengths[0]) for many, few in
+                [(here_many, here_few), (there_many, there_few)]]
+        each = [bytes_held / (here_many[1] - here_few[1]) for bytes_held in held]
+        text += f"""Memory is the file, and {each[0]:.0f} bytes for each token ({each[1]:.0f} in Rust): the difference between the two files of rows.
 """
     put("tokens", text)
     print(text)
 
 
-main()
+if __name__ == "__main__":
+    main()

@@ -64,14 +64,25 @@ def digits(draw, most):
 
 
 def numeral(draw):
-    """Digits, mostly with a point and an exponent, so that most of them are numerals, and many at their limits."""
+    """Digits, mostly with a point and an exponent, so that most of them are numerals."""
     text = digits(draw, draw.choice([1, 3, 16, 32]))
     if draw.random() < 0.6:
         text += b"." + digits(draw, draw.choice([1, 3, 16, 32]))
     if draw.random() < 0.5:
-        power = draw.choice([b"%d" % draw.randrange(70), b"%d" % draw.randrange(24, 36), digits(draw, 25), b""])
-        text += draw.choice(b"eE").to_bytes(1, "big") + draw.choice([b"", b"+", b"-"]) + power
+        power = draw.choice([b"%d" % draw.randrange(70), digits(draw, 25), b""])
+        text += draw.choice([b"e", b"E", b"e+", b"E-", b"e-"]) + power
     return text
+
+
+def numeral_at_limit(draw):
+    """A numeral near 10^30, or with about thirty places, whose point stands anywhere."""
+    size = draw.randrange(27, 32)
+    core = draw.choice([b"1", b"25", b"9" * size, b"1" + b"0" * size, b"1" + b"0" * (size - 1) + b"1"])
+    last = draw.choice([30 - len(core) + draw.choice([-1, 0, 1]), -draw.choice([29, 30, 31])])
+    behind = draw.choice([0, draw.randrange(70)])
+    shown = core.rjust(behind + draw.randrange(2), b"0")
+    whole, fraction = shown[:len(shown) - behind], shown[len(shown) - behind:]
+    return whole + b"." + fraction + draw.choice([b"e%d", b"E%+d"]) % (last + behind)
 
 
 def piece(draw, faults):
@@ -98,8 +109,9 @@ def soup(draw):
 
 def numerals(draw):
     """Numerals with blanks, or nothing, between them."""
-    parts = [numeral(draw) + draw.choice([b" ", b"\n", b"+", b"", b"x", b"."]) for _ in range(draw.choice([1, 1, 2, 8]))]
-    return b"".join(parts)
+    sorts = [numeral, numeral_at_limit]
+    count = draw.choice([1, 1, 2, 8])
+    return b"".join(draw.choice(sorts)(draw) + draw.choice([b" ", b"\n", b"+", b"", b"x", b"."]) for _ in range(count))
 
 
 def ends(draw):

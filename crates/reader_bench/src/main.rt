@@ -1,6 +1,6 @@
 //! `reader_bench read|print ROUNDS` reads, or prints, so many numbers of ten digits and prints a checksum of what came out.
 //! `reader_bench tokens|list` cuts standard input into tokens, and prints their number, or a line for each.
-//! The scripts `bench/decimal.py`, `bench/tokens.py` and `scripts/compare_tokens.py` run it.
+//! The scripts `bench/decimals.py`, `bench/tokens.py` and `scripts/compare_tokens.py` run it.
 #![tactic(auto)]
 
 mod inputs;

@@ -2,7 +2,7 @@
 """Measures what it takes to read and to print a number of ten digits, beside Rust's `str::parse::<f64>` and
 `i128::to_string`, and writes its part of docs/performance.md.
 
-usage: bench/decimal.py     after 'rt run' in crates/reader_bench; needs rustc, and builds bench/decimal_bench.rs alone
+usage: bench/decimals.py     after 'rt run' in crates/reader_bench; needs rustc, and builds bench/decimal_bench.rs alone
 """
 import struct
 import sys
@@ -71,7 +71,7 @@ def main():
             table.append(f"| {call} | {here:.1f} | {other} | {there:.1f} | {here / there:.2f} |")
     text = f"""## A number
 
-Written by `bench/decimal.py`, on {machine()}. Nanoseconds for each of {MANY - FEW:,} numbers of
+Written by `bench/decimals.py`, on {machine()}. Nanoseconds for each of {MANY - FEW:,} numbers of
 ten digits: the difference between runs of two numbers of rounds, each the least of three. Half of the texts that are read
 have a point; what is printed has from 0 to 9 decimal places. Beside it what Rust has ({rust}, `-O`): a float is
 rounded, and `to_string` makes a whole number's text in memory of its own.

@@ -4,7 +4,6 @@ use Rattle.std.specs.Prelude.{Some, None, if◌then◌else◌}
 use Rattle.std.proofs.lemmas.List.{take_more, append-nil}
 use Rattle.std.proofs.lemmas.Bool.{cases_lt}
 use Rattle.sp_lp_tokens.specs.declared.numeral_places.Place.{Place}
-use Rattle.sp_lp_tokens.specs.declared.numeral_places.Place.TheVariants.{Start}
 use Rattle.sp_lp_tokens.specs.Longest.{IsLongest}
 use Rattle.sp_lp_tokens.specs.NumeralPlaces.{ends_numeral}
 use Rattle.sp_lp_tokens.specs.Texts.{is_number}
@@ -16,14 +15,6 @@ pub record IsRead (bytes : List ℕ) (i : ℕ) (place : Place) (n : ℕ) : Type 
   pub passes : 0 < n → is_number (take n bytes) ≡ true
   pub longest : (k : ℕ) → n < k → k ≤ i → is_number (take k bytes) ≡ false
   pub goes_on : (rest : List ℕ) → is_number (take i bytes ++ rest) ≡ left place rest
-
-pub read_none : (bytes : List ℕ) → IsRead bytes 0 Start 0
-read_none bytes = record {
-  within = omega arith;
-  passes = λ l. absurd (omega arith);
-  longest = λ k l w. absurd (omega arith);
-  goes_on = λ rest. refl;
-}
 
 -- a longer front is the front with one byte more, and what follows it
 front_splits : (bytes : List ℕ) (i k : ℕ) → i < k → k ≤ length bytes → (more : List ℕ) × (take k bytes ≡ take i bytes ++ get_or bytes i 0 ∷ more)
@@ -76,13 +67,4 @@ read_stops bytes i place n h l e =
       longest = λ k a b. ⊎_elim
           (λ c. let r = front_splits bytes i k c b in ap is_number r.1 ∙ (h.goes_on (get_or bytes i 0 ∷ r.0) ∙ e r.0))
           (λ c. h.longest k a c) (cases_lt i k);
-    }
-
-pub read_all : (bytes : List ℕ) (i : ℕ) (place : Place) (n : ℕ) → IsRead bytes i place n → length bytes ≤ i → i ≤ length bytes → IsLongest is_number bytes n
-read_all bytes i place n h l m =
-    let w : n ≤ i = h.within in
-    record {
-      within = omega arith;
-      passes = h.passes;
-      longest = λ k a b. h.longest k a (omega arith);
     }

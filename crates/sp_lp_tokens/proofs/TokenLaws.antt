@@ -1,5 +1,5 @@
 -- What the next token of a file leaves behind it.
-use Rattle.std.proofs.Common.{◌≡◌, ℕ, ◌+◌, ◌-◌, ◌<◌, ◌≤◌, Bool, true, false, List, [], ◌∷◌, length, take, drop, refl, ap, sym, ◌∙◌, subst, arith, length-drop}
+use Rattle.std.proofs.Common.{◌≡◌, ℕ, ◌+◌, ◌-◌, ◌<◌, ◌≤◌, Bool, true, false, List, [], ◌∷◌, length, drop, refl, ap, sym, ◌∙◌, subst, arith, length-drop}
 use Rattle.std.specs.Prelude.{count_by}
 use Rattle.std.proofs.lemmas.Bool.{both_ways}
 use Rattle.std.proofs.lemmas.List.{length-take-le}
@@ -40,9 +40,6 @@ pub record LiesBehind (source : List ℕ) (place : ℕ) (t : Token) : Type 0 whe
   pub behind : place ≤ t.start
   pub some : t.start < t.end
   pub within : t.end ≤ length source
-
-text_length : (source : List ℕ) (start end n : ℕ) → n ≤ length (drop start source) → length (take n (drop start source)) ≡ n
-text_length source start end n h = length-take-le n (drop start source) h
 
 pub next_lies_behind : (source : List ℕ) (place : ℕ) (t : Token) → IsNextToken source place t → LiesBehind source place t
 next_lies_behind source place t h =

@@ -1,8 +1,8 @@
 -- A text that is cut from the left: what is left of it, and one piece more.
-use Rattle.std.proofs.Common.{◌≡◌, ℕ, ◌+◌, ◌-◌, ◌<◌, ◌≤◌, ◌≢◌, cond, not, List, [], ◌∷◌, ◌++◌, length, take, drop, get_or, set, slice_range, nat_le, refl, sym, ap, ap₂, ◌∙◌, inl, inr, arith, length-drop}
+use Rattle.std.proofs.Common.{◌≡◌, ℕ, ◌+◌, ◌-◌, ◌<◌, ◌≤◌, ◌≢◌, cond, not, List, [], ◌∷◌, ◌++◌, length, take, drop, get_or, set, slice_range, nat_le, sym, ap, ap₂, ◌∙◌, inl, inr, arith, length-drop}
 use Rattle.std.specs.List.{All, zip, slice_split, position_or_len}
 use Rattle.std.proofs.lemmas.List.{drop-drop, take_all, take_more_set, drop_more, map-append, append_assoc, append-nil, length-set, take_rest}
-use Rattle.std.proofs.lemmas.List.Elements.{All-nil, All-push}
+use Rattle.std.proofs.lemmas.List.Elements.{All-push}
 use Rattle.std.proofs.lemmas.List.Splits.{slice_split_first, slice_split_none}
 use Rattle.std.proofs.lemmas.List.Sums.{prefix_len-le-length, fails_before_first}
 use Rattle.std.proofs.lemmas.Bool.{cases_lt, cond-true, cond-false, le-leb, lt-leb}
@@ -49,25 +49,6 @@ first_piece text start h =
           ∙ ap₂ (λ (p : List ℕ) (ps : List (List ℕ)). p ∷ ps) (sym all) (sym (pieces-end text (start + n + 1) (omega arith)))
     ]
 
--- before the first piece, what is left is the whole text
-pub whole-empty : (text : List ℕ) → length text ≡ 0 → pieces_from text 1 ≡ spellings text
-whole-empty [] e = refl
-whole-empty (byte ∷ bytes) e = absurd (omega arith)
-
-pub whole-filled : (text : List ℕ) → 0 < length text → pieces_from text 0 ≡ spellings text
-whole-filled [] e = absurd (omega arith)
-whole-filled (byte ∷ bytes) e = pieces-left (byte ∷ bytes) 0 (omega arith)
-
-pub starts : (n : ℕ) (text codes : List ℕ) (entries : List Entry) (start : ℕ) → length entries ≡ n
-    → pieces_from text start ≡ spellings text → start ≤ length text + 1 → IsCutUpTo n text codes entries 0 start
-starts n text codes entries start room e bound = record {
-  room = room;
-  count = omega (arith, ap length e);
-  bound = bound;
-  within = All-nil (IsWithin text);
-  rows = ap (λ (ps : List (List ℕ)). zip ps codes) e;
-}
-
 pub goes_on : (n : ℕ) (text codes : List ℕ) (entries : List Entry) (i start len : ℕ) → IsCutUpTo n text codes entries i start
     → start ≤ length text → i < n → length codes ≡ n
     → len ≡ position_or_len is_blank (take (length text - start) (drop start text))
@@ -110,10 +91,6 @@ ends n text codes entries i start h below above past =
       rows = sym (append-nil (rows_of text entries)) ∙ ap (λ (es : List Entry). rows_of text es ++ []) (sym all)
           ∙ ap (λ (ps : List (List ℕ)). rows_of text (take i entries) ++ zip ps (drop i codes)) (sym none) ∙ h.rows;
     }
-
-pub too_few : (n : ℕ) (text codes : List ℕ) (entries : List Entry) (i start : ℕ) → IsCutUpTo n text codes entries i start
-    → length text < start → i < n → length (spellings text) ≢ n
-too_few n text codes entries i start h past more e = omega (arith, h.count, ap length (pieces-end text start past))
 
 pub too_many : (n : ℕ) (text codes : List ℕ) (entries : List Entry) (i start : ℕ) → IsCutUpTo n text codes entries i start
     → n ≤ i → start ≤ length text → length (spellings text) ≢ n

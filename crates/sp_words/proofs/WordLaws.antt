@@ -12,9 +12,6 @@ lowered a b e = (bytes_eq-Decides _ _).0 e
 pub same_word-true : (a b : List ℕ) → map to_ascii_lowercase a ≡ map to_ascii_lowercase b → same_word a b ≡ true
 same_word-true a b e = (bytes_eq-Decides _ _).1 e
 
-pub same_word-false : (a b : List ℕ) → (map to_ascii_lowercase a ≡ map to_ascii_lowercase b → ⊥) → same_word a b ≡ false
-same_word-false a b ne = false_from_ne_true _ (λ e. ne (lowered a b e))
-
 -- a word that is the same as two words makes them the same
 pub same_word_joins : (word a b : List ℕ) → same_word word a ≡ true → same_word word b ≡ true → same_word a b ≡ true
 same_word_joins word a b p q = same_word-true a b (sym (lowered word a p) ∙ lowered word b q)

@@ -1,5 +1,6 @@
 //! What is printed of a file's tokens.
-ghost use Rattle.std.specs.Prelude.{◌≤◌, ◌^◌, length};
+ghost use Rattle.std.specs.Prelude.{◌≤◌, ◌^◌, length, All};
+ghost use Rattle.sp_lp_tokens.specs.Tokens.{IsSpan};
 
 use anyhow::{Result, bail};
 use sp_decimal::Numeral;
@@ -47,7 +48,9 @@ fn report<P: Print>(rt: &P, refusal: TokenRefusal) -> Result<()> {
 }
 
 /// Writes a line for each token.
-fn write_tokens<W: Write>(out: &mut W, file: &[u8], tokens: &[Token]) -> io::Result<()> {
+fn write_tokens<W: Write>(out: &mut W, file: &[u8], tokens: &[Token]) -> io::Result<()>
+    requires { All (IsSpan file.now) tokens.now }
+{
     for token in tokens {
         write_token(out, file, token)?;
     }
@@ -55,13 +58,12 @@ fn write_tokens<W: Write>(out: &mut W, file: &[u8], tokens: &[Token]) -> io::Res
 }
 
 /// Writes the letter of the token's kind, its text, its value if it is a number, and its line.
-fn write_token<W: Write>(out: &mut W, file: &[u8], token: &Token) -> io::Result<()> {
-    let text = file
-        .get(token.start as usize..token.end as usize)
-        .unwrap_or(b"");
+fn write_token<W: Write>(out: &mut W, file: &[u8], token: &Token) -> io::Result<()>
+    requires { IsSpan file.now token.now }
+{
     let line = token.line;
     out.write_all(letter_of(&token.kind))?;
-    out.write_all(text)?;
+    out.write_all(token.text(file))?;
     write_value(out, &token.kind)?;
     writeln!(out, "@{line}")
 }

@@ -1,7 +1,9 @@
 -- What the next token of a file leaves behind it.
 use Rattle.std.proofs.Common.{◌≡◌, ℕ, ◌+◌, ◌-◌, ◌<◌, ◌≤◌, Bool, true, false, List, [], ◌∷◌, length, drop, refl, ap, sym, ◌∙◌, subst, arith, length-drop}
 use Rattle.std.specs.Prelude.{count_by}
+use Rattle.std.specs.List.{All}
 use Rattle.std.proofs.lemmas.Bool.{both_ways}
+use Rattle.std.proofs.lemmas.List.Elements.{All-nil, All-cons}
 use Rattle.std.proofs.lemmas.List.{length-take-le}
 use Rattle.sp_lp_tokens.specs.declared.kinds.Token.{Token}
 use Rattle.sp_lp_tokens.specs.declared.kinds.TokenKind.{TokenKind}
@@ -11,7 +13,7 @@ use Rattle.sp_lp_tokens.specs.declared.symbols.Symbol.TheVariants as symbols
 use Rattle.sp_lp_tokens.specs.declared.numeral_places.Place.TheVariants.{Start}
 use Rattle.sp_lp_tokens.specs.Gaps.{is_feed, gap_length, line_at}
 use Rattle.sp_lp_tokens.specs.Texts.{is_name, is_number}
-use Rattle.sp_lp_tokens.specs.Tokens.{IsKind, IsNextToken, IsNextFault, text_of, Ending, Complete, Faulty, Onward, TokensFrom, ends_list, AreInOrder}
+use Rattle.sp_lp_tokens.specs.Tokens.{IsKind, IsNextToken, IsNextFault, text_of, Ending, Complete, Faulty, Onward, TokensFrom, ends_list, AreInOrder, IsSpan}
 use Rattle.sp_lp_tokens.proofs.NumeralLeft.{left-nil}
 use Rattle.sp_lp_tokens.proofs.FeedLaws.{no_feed_in_name, no_feed_in_number, no_feed_in_symbol}
 use Rattle.sp_lp_tokens.proofs.LineLaws.{line_at-add}
@@ -91,3 +93,14 @@ tokens_in_order source (t ∷ ts) place line_before ending within h =
     by : (last : Bool) → Onward last ts ending (TokensFrom source t.end t.line ts ending) → (TokensFrom source t.end t.line ts ending → AreInOrder t.end ts (length source)) → t.end ≤ length source → AreInOrder t.end ts (length source)
     by true o ih w = subst (λ (us : List Token). AreInOrder t.end us (length source)) (sym o.0) w
     by false o ih w = ih o
+
+-- what lies in order ends where it may
+ordered_within : (from : ℕ) (ts : List Token) (to : ℕ) → AreInOrder from ts to → from ≤ to
+ordered_within from [] to h = h
+ordered_within from (t ∷ ts) to h = omega (arith, h.0, h.1, ordered_within t.end ts to h.2)
+
+-- tokens in order each have their text in the source
+pub ordered_are_spans : (source : List ℕ) (from : ℕ) (ts : List Token) → AreInOrder from ts (length source) → All (IsSpan source) ts
+ordered_are_spans source from [] h = All-nil (IsSpan source)
+ordered_are_spans source from (t ∷ ts) h =
+    All-cons (IsSpan source) t ts (record { rising = h.1; within = ordered_within t.end ts (length source) h.2 }) (ordered_are_spans source t.end ts h.2)

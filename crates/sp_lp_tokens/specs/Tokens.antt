@@ -91,6 +91,11 @@ AreTokens source ts = TokensFrom source 0 0 ts Complete
 abbrev pub IsFirstFault : List ℕ → ℕ → TokenKindFault → Type 0
 IsFirstFault source line kind = (ts : List Token) × TokensFrom source 0 0 ts (Faulty line kind)
 
+-- the token's text is a piece of the source, and has a byte at least
+pub record IsSpan (source : List ℕ) (t : Token) : Type 0 where
+  pub rising : t.start < t.end
+  pub within : t.end ≤ length source
+
 -- tokens one behind the other, each with a byte at least, from a place on and before another
 abbrev pub AreInOrder : ℕ → List Token → ℕ → Type 0
 AreInOrder from [] to = from ≤ to

@@ -1,3 +1,6 @@
+ghost use Rattle.std.specs.Prelude.{All};
+ghost use Rattle.sp_lp_tokens.specs.Tokens.{IsSpan};
+
 use crate::kinds::{Token, TokenKind, TokenKindFault, TokenRefusal};
 use crate::reading::tokens;
 use sp_decimal::Numeral;
@@ -13,7 +16,9 @@ fn put(out: &mut String, bytes: &[u8]) -> Result<(), AllocError> {
 }
 
 /// A token as a letter for its kind, its text, its value if it is a number, and its line.
-fn show(alloc: Global, source: &[u8], token: &Token) -> Result<String, AllocError> {
+fn show(alloc: Global, source: &[u8], token: &Token) -> Result<String, AllocError>
+    requires { IsSpan source.now token.now }
+{
     let mut out = String::new(alloc);
     out.push_str(match token.kind {
         TokenKind::Name => "n",
@@ -23,8 +28,7 @@ fn show(alloc: Global, source: &[u8], token: &Token) -> Result<String, AllocErro
     if let TokenKind::Symbol(symbol) = token.kind {
         put(&mut out, symbol.spelling())?;
     } else {
-        let (start, end) = (token.start as usize, token.end as usize);
-        put(&mut out, source.get(start..end).unwrap_or(b""))?;
+        put(&mut out, token.text(source))?;
     }
     match token.kind {
         TokenKind::Number(Numeral::Exact(d)) => {
@@ -40,7 +44,9 @@ fn show(alloc: Global, source: &[u8], token: &Token) -> Result<String, AllocErro
 }
 
 /// Some tokens, parted by blanks.
-fn show_all(alloc: Global, source: &[u8], tokens: &[Token]) -> Result<String, AllocError> {
+fn show_all(alloc: Global, source: &[u8], tokens: &[Token]) -> Result<String, AllocError>
+    requires { All (IsSpan source.now) tokens.now }
+{
     let mut out = String::new(alloc);
     for token in tokens {
         if !out.is_empty() {

@@ -2,7 +2,7 @@ use Rattle.std.proofs.Common.{[], ◌∷◌, ◌++◌, sym, arith, append_assoc}
 use Rattle.std.proofs.lemmas.List.{append-nil}
 use Rattle.sp_lp_tokens.specs.Tokens.{Complete, Faulty}
 use Rattle.sp_lp_tokens.proofs.LineLaws.{line_at-first}
-use Rattle.sp_lp_tokens.proofs.TokenLaws.{next_lies_behind, line_at-end, complete_at, fault_at, token_first, token_last, tokens_in_order}
+use Rattle.sp_lp_tokens.proofs.TokenLaws.{next_lies_behind, line_at-end, complete_at, fault_at, token_first, token_last, tokens_in_order, ordered_are_spans}
 use Rattle.sp_lp_tokens.proofs.OneList.{only_list, only_fault}
 use Rattle.sp_lp_tokens.proofs.reading.tokens.Goals as goal
 
@@ -61,3 +61,9 @@ returns-then-ends_list-clause-spans c = tokens_in_order c.args.bytes.now c.push.
 
 pub returns-then-ends_list-clause-only : goal.returns-then-ends_list-clause-only
 returns-then-ends_list-clause-only c = only_list c.args.bytes.now c.push.new.self.items (returns-then-ends_list-clause-found c)
+
+pub returns-in-Nothing-clause-texts : goal.returns-in-Nothing-clause-texts
+returns-in-Nothing-clause-texts c = ordered_are_spans c.args.bytes.now 0 c.loop-tokens.tokens.items (returns-in-Nothing-clause-spans c)
+
+pub returns-then-ends_list-clause-texts : goal.returns-then-ends_list-clause-texts
+returns-then-ends_list-clause-texts c = ordered_are_spans c.args.bytes.now 0 c.push.new.self.items (returns-then-ends_list-clause-spans c)

@@ -1,0 +1,8 @@
+//! Drafts: what a model file says, with its names and its numbers as they are written.
+#![tactic(auto)]
+
+mod drafts;
+mod naming;
+
+pub use drafts::{Draft, DraftIndicator, DraftRow, DraftSos, DraftVar, Sense, Sides, VarKind};
+pub use naming::Names;

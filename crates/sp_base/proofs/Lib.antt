@@ -1,3 +1,5 @@
 pub mod ToldLaws
 pub mod Streams
 mod Entries
+pub mod LineLemmas
+pub mod FieldLemmas

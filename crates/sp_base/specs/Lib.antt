@@ -5,3 +5,5 @@ pub mod Source
 pub mod Sink
 pub mod Shelf
 pub mod Memory
+pub mod Lines
+pub mod Fields

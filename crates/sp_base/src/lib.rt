@@ -3,15 +3,20 @@
 #![tactic(auto)]
 
 mod call_logs;
+mod fields;
+mod lines;
 mod memory_shelves;
 mod memory_sinks;
 mod memory_sources;
+mod places;
 mod shelves;
 mod sinks;
 mod sources;
 mod statuses;
 mod texts;
 
+pub use fields::{is_blank, next_field};
+pub use lines::next_line;
 pub use memory_shelves::{MemShelf, SureShelf};
 pub use memory_sinks::{MemSink, SureSink};
 pub use memory_sources::{MemSource, SureSource};
@@ -21,5 +26,7 @@ pub use sources::{Got, Source};
 pub use statuses::Status;
 pub use texts::{Text, WordList};
 
+#[cfg(test)]
+mod cutting_tests;
 #[cfg(test)]
 mod tests;

@@ -3,6 +3,8 @@
 
 mod drafts;
 mod naming;
+mod read_refusals;
 
 pub use drafts::{Draft, DraftIndicator, DraftRow, DraftSos, DraftVar, Sense, Sides, VarKind};
 pub use naming::Names;
+pub use read_refusals::ReadRefusal;

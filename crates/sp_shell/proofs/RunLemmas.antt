@@ -13,7 +13,7 @@ use Rattle.sp_base.specs.declared.statuses.Status.{Status}
 use Rattle.sp_base.specs.declared.statuses.Status.TheVariants as status
 use Rattle.sp_model.specs.declared.parts.ModelParts.{ModelParts}
 use Rattle.sp_model.specs.Models.{root_of, Feasible}
-use Rattle.sp_lp.specs.Reads.{Reads}
+use Rattle.sp_small_lp.specs.Reads.{Reads}
 use Rattle.sp_shell.specs.declared.journals.Entry.{Entry}
 use Rattle.sp_shell.specs.declared.journals.Entry.TheVariants as entry
 use Rattle.sp_shell.specs.declared.journals.FetchNote.{FetchNote}

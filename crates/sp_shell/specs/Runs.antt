@@ -14,7 +14,7 @@ use Rattle.sp_model.specs.Boxes.{point_count, room}
 use Rattle.sp_model.specs.Models.{Feasible, IsLeast, IsOptimum, objective, root_of}
 use Rattle.sp_model.specs.Cuts.{cut_of}
 use Rattle.sp_model.specs.Lists.{IsListAt}
-use Rattle.sp_lp.specs.Reads.{Reads}
+use Rattle.sp_small_lp.specs.Reads.{Reads}
 use Rattle.sp_shell.specs.declared.journals.Entry.{Entry}
 use Rattle.sp_shell.specs.declared.journals.Entry.TheVariants as entry
 use Rattle.sp_shell.specs.declared.journals.FetchNote.{FetchNote}

@@ -6,7 +6,7 @@ ghost use Rattle.sp_model.specs.Rules.{IsLawful};
 use crate::journals::{Entry, RunEnd};
 use crate::solving::{Solved, solve};
 use sp_base::WordList;
-use sp_lp::NamedModel;
+use sp_small_lp::NamedModel;
 use sp_model::{BuildRefusal, Found, Model, NoMemory};
 use std::alloc::{AllocError, Global};
 

@@ -2,7 +2,7 @@
 ghost use Rattle.std.specs.Prelude.{◌≡◌, ◌≤◌, ◌^◌, ◌<◌, ◌++◌, ◌∷◌, [], ◌↔◌, None, All, List, ℕ, length, count_by, flat_map, Err, IfSome, MatchOption, Some, vec_len, vec_capacity, unsigned_abs};
 ghost use Rattle.sp_base.specs.Counts.{Rose, RoseBy};
 ghost use Rattle.sp_base.specs.Told.{append};
-ghost use Rattle.sp_lp.specs.Reads.{Reads};
+ghost use Rattle.sp_small_lp.specs.Reads.{Reads};
 ghost use Rattle.sp_model.specs.Rules.{IsLawful};
 ghost use Rattle.sp_shell.specs.Outputs.{Prints, Sends};
 ghost use Rattle.sp_shell.specs.Replies.{reply_text, IsPrintable};
@@ -16,7 +16,7 @@ use crate::printing::print_stopped;
 use crate::replying::print_done;
 use crate::wordings::{Wording, bytes_of};
 use sp_base::{Fetched, Shelf, Sink, SinkEnd, Source, Status, Text, WordList, write_all};
-use sp_lp::{LpRefusal, NamedModel, read_lp};
+use sp_small_lp::{LpRefusal, NamedModel, read_lp};
 use sp_model::Items;
 use std::alloc::Global;
 

@@ -1,6 +1,6 @@
 use Rattle.std.specs.Prelude.{Err}
 use Rattle.std.proofs.Common.{◌∙◌, sym, ap, subst}
-use Rattle.sp_lp.specs.Reads.{Reads}
+use Rattle.sp_small_lp.specs.Reads.{Reads}
 use Rattle.sp_shell.proofs.RunLemmas.{syntax_outcome}
 use Rattle.sp_shell.proofs.runs.run_bytes.Goals as goal
 

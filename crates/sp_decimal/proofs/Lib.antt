@@ -20,3 +20,4 @@ pub mod ReadingLaws
 pub mod RoundingLaws
 pub mod StripLaws
 pub mod TrailingZeros
+pub mod ReadBackLemmas

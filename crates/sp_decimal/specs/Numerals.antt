@@ -1,7 +1,7 @@
 -- What a numeral is read as.
-use Rattle.std.specs.Prelude.{◌≡◌, ◌≢◌, ℕ, ◌*◌, ◌/◌, ◌%◌, ◌^◌, ◌<◌, ◌≤◌, Bool, ◌==◌, nat_lt, nat_le, if◌then◌else◌, List, Option, None, Some, Result, Ok, Err, find, ℤ, pos, neg_ℤ, unsigned_abs}
+use Rattle.std.specs.Prelude.{◌≡◌, ◌≢◌, ℕ, ◌*◌, ◌/◌, ◌%◌, ◌^◌, ◌<◌, ◌≤◌, Bool, not, ◌==◌, nat_lt, nat_le, if◌then◌else◌, List, Option, None, Some, Result, Ok, Err, find, ℤ, pos, neg_ℤ, unsigned_abs}
 use Rattle.std.specs.List.{range_with_len}
-use Rattle.sp_decimal.specs.DecimalFraction.{DecimalFraction}
+use Rattle.sp_decimal.specs.DecimalFraction.{DecimalFraction, opposite}
 use Rattle.sp_decimal.specs.declared.numerals.Numeral.{Numeral}
 use Rattle.sp_decimal.specs.declared.numerals.Numeral.TheVariants.{Exact, Huge}
 use Rattle.sp_decimal.specs.declared.numerals.NumeralFault.{NumeralFault}
@@ -32,6 +32,11 @@ unfoldable pub numeral : List ℕ → Result Numeral NumeralFault
 numeral text =
     if is_infinity (unsigned text) then Ok (Huge (has_minus text)) else (
     if is_plain_numeral (unsigned text) then fraction_numeral (has_minus text) (top (unsigned text)) (bottom (unsigned text)) else Err NotNumeral)
+
+-- what a numeral stands for, with the other sign
+abbrev pub opposite_numeral : Numeral → Numeral
+opposite_numeral (Exact d) = Exact (opposite d)
+opposite_numeral (Huge negative) = Huge (not negative)
 
 -- the decimal is the fraction with its sign, in the fewest places
 pub record IsFraction (negative : Bool) (top bottom : ℕ) (d : DecimalFraction) : Type 0 where

@@ -1,3 +1,4 @@
+//! Decimals: whole numbers with places behind a point.
 ghost use Rattle.std.specs.Prelude.{◌≡◌};
 
 use std::marker::Model;
@@ -22,4 +23,18 @@ impl Model for Decimal {
     ghost invariant = { λ d. IsDecimal d.p d.s };
 
     ghost inverse = { λ v. record { p = v.p; s = v.s } };
+}
+
+impl Decimal {
+    ghost use Rattle.sp_decimal.specs.DecimalFraction.{opposite};
+
+    /// The decimal with the other sign, in as many places.
+    pub fn negated(&self) -> Decimal
+        ensures { result ≡ opposite self.now }
+    {
+        Decimal {
+            p: -self.p,
+            s: self.s,
+        }
+    }
 }

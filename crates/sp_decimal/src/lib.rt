@@ -16,7 +16,7 @@ mod rounding;
 mod significands;
 
 pub use decimals::Decimal;
-pub use numeral_laws::{reading_is_what_answer_says, written_is_exact};
+pub use numeral_laws::{decimals_are_read_back, numerals_have_one_reading, written_is_exact};
 pub use numerals::{Numeral, NumeralFault};
 pub use printing::{Printed, print, values_have_one_text};
 pub use rounding::{ceil, floor, scaled};

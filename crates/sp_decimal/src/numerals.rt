@@ -1,5 +1,6 @@
+//! Numerals: what their texts stand for, and why a text is none.
 ghost use Rattle.std.specs.Prelude.{◌≡◌};
-ghost use Rattle.sp_decimal.specs.Numerals.{numeral};
+ghost use Rattle.sp_decimal.specs.Numerals.{numeral, opposite_numeral};
 
 use crate::decimals::Decimal;
 use crate::parts::{cut, is_endless, split_sign};
@@ -48,6 +49,17 @@ impl Numeral {
         match cut(digits) {
             Some(parts) => value(negative, &parts),
             None => Err(NumeralFault::NotNumeral),
+        }
+    }
+    /// The same with the other sign; the negation of a huge number is huge.
+    pub fn negated(&self) -> Numeral
+        ensures { result ≡ opposite_numeral self.now }
+    {
+        match self {
+            Numeral::Exact(d) => Numeral::Exact(d.negated()),
+            Numeral::Huge { negative } => Numeral::Huge {
+                negative: !*negative,
+            },
         }
     }
 }

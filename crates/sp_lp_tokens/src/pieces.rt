@@ -5,7 +5,7 @@ ghost use Rattle.sp_lp_tokens.specs.Pieces.{IsPieceOrFault};
 
 use crate::kinds::{TokenKind, TokenKindFault};
 use crate::lengths::{name_length, number_length, symbol_at};
-use sp_decimal::{Numeral, NumeralFault, reading_is_what_answer_says};
+use sp_decimal::{Numeral, NumeralFault, numerals_have_one_reading};
 
 /// The longest name that a token may have, in bytes.
 const LONGEST_NAME: usize = 255;
@@ -41,7 +41,7 @@ fn number_piece(bytes: &[u8], length: usize) -> Result<Piece, TokenKindFault>
     requires longest { IsLongest is_number bytes.now length }
     ensures { IsPieceOrFault bytes.now result }
 {
-    reading_is_what_answer_says();
+    numerals_have_one_reading();
     match Numeral::read(&bytes[..length]) {
         Ok(numeral) => Ok(Piece {
             kind: TokenKind::Number(numeral),

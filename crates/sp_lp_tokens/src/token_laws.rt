@@ -2,7 +2,7 @@ ghost use Rattle.std.specs.Prelude.{◌≡◌, ℕ, List};
 ghost use Rattle.sp_lp_tokens.specs.declared.kinds.Token.{Token};
 ghost use Rattle.sp_lp_tokens.specs.Tokens.{Ending, TokensFrom};
 
-use sp_decimal::reading_is_what_answer_says;
+use sp_decimal::numerals_have_one_reading;
 
 /// A file has at most one list of tokens, and it ends in one way.
 pub fn tokens_are_unique()
@@ -14,5 +14,5 @@ pub fn tokens_are_unique()
 pub fn files_have_tokens()
     ensures { (source : List ℕ) → (ts : List Token) × (ending : Ending) × TokensFrom source 0 0 ts ending }
 {
-    reading_is_what_answer_says();
+    numerals_have_one_reading();
 }

@@ -5,7 +5,7 @@ use Rattle.sp_lp_tokens.proofs.pieces.number_piece.Goals as goal
 
 pub unreachable-requires : goal.unreachable-requires
 unreachable-requires c =
-    number_is_numeral _ (c.requires.longest.passes c.requires.some) (c.reading_is_what_answer_says.ensures.says _) (sym c.read.ensures ∙ cc)
+    number_is_numeral _ (c.requires.longest.passes c.requires.some) (c.numerals_have_one_reading.ensures.says _) (sym c.read.ensures ∙ cc)
 
 pub returns-in-Ok : goal.returns-in-Ok
 returns-in-Ok c = number_is_piece c.args.bytes.now c.args.length c.in-Ok.numeral c.requires.some c.requires.longest (cc)

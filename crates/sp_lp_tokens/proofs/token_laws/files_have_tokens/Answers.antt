@@ -3,4 +3,4 @@ use Rattle.sp_lp_tokens.proofs.SomeList.{tokens_from}
 use Rattle.sp_lp_tokens.proofs.token_laws.files_have_tokens.Goals as goal
 
 pub returns : goal.returns
-returns c = λ source. tokens_from c.reading_is_what_answer_says.ensures.says source (length source) 0 0 (omega arith) (omega arith)
+returns c = λ source. tokens_from c.numerals_have_one_reading.ensures.says source (length source) 0 0 (omega arith) (omega arith)

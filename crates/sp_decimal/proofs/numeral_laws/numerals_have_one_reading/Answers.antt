@@ -1,5 +1,5 @@
 use Rattle.sp_decimal.proofs.ReadingLaws.{reading-iff, reading-unique}
-use Rattle.sp_decimal.proofs.numeral_laws.reading_is_what_answer_says.Goals as goal
+use Rattle.sp_decimal.proofs.numeral_laws.numerals_have_one_reading.Goals as goal
 
 pub returns-clause-says : goal.returns-clause-says
 returns-clause-says c = reading-iff

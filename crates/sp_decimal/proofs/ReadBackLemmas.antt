@@ -9,9 +9,9 @@ use Rattle.sp_decimal.specs.DecimalFraction.{IsDecimal}
 use Rattle.sp_decimal.specs.declared.numerals.Numeral.TheVariants.{Exact}
 use Rattle.sp_decimal.specs.Numerals.{signed, numeral, fraction_numeral, IsFraction}
 use Rattle.sp_decimal.specs.Printing.{printed}
-use Rattle.sp_decimal.proofs.FractionAnswers.{told, told-unique}
-use Rattle.sp_decimal.proofs.Powers.{power-positive}
-use Rattle.sp_decimal.proofs.PrintedValue.{printed-reads}
+use Rattle.sp_decimal.proofs.FractionAnswerLemmas.{told, told-unique}
+use Rattle.sp_decimal.proofs.PowerLemmas.{power-positive}
+use Rattle.sp_decimal.proofs.PrintedValueLemmas.{printed-reads}
 
 -- a number with its own sign is itself
 own_sign : (z : ℤ) → z ≡ signed (is_negative z) (unsigned_abs z)

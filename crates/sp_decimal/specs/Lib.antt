@@ -1,9 +1,9 @@
 pub mod DecimalFraction
 pub mod Grammar
+pub mod InnerParts
+pub mod InnerPlaces
+pub mod InnerSignificands
 pub mod Numerals
-pub mod Parts
-pub mod Places
 pub mod Printing
 pub mod Readings
 pub mod Rounding
-pub mod Significands

@@ -6,6 +6,10 @@ use Rattle.std.specs.Int.{is_negative}
 use Rattle.std.specs.Fmt.{decimal, sign_text}
 use Rattle.sp_decimal.specs.Grammar.{some_digits, has_minus, is_point, unsigned, whole_part, fraction_part, top, bottom}
 
+-- no text is longer: a minus, the thirty-nine digits of a number of 128 bits, and a point
+abbrev pub longest_text : ℕ
+longest_text = 41
+
 -- the digit 0
 abbrev pub is_zero : ℕ → Bool
 is_zero b = b == 48

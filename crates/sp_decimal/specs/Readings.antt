@@ -1,5 +1,6 @@
 -- What a text may be read as, each answer said by itself.
 use Rattle.std.specs.Prelude.{◌≡◌, ℕ, ◌*◌, ◌^◌, ◌<◌, ◌≤◌, ◌⊎◌, List, Result, Ok, Err, IsTrue}
+use Rattle.sp_decimal.specs.DecimalFraction.{most_places, huge_from}
 use Rattle.sp_decimal.specs.declared.numerals.Numeral.{Numeral}
 use Rattle.sp_decimal.specs.declared.numerals.Numeral.TheVariants.{Exact, Huge}
 use Rattle.sp_decimal.specs.declared.numerals.NumeralFault.{NumeralFault}
@@ -10,12 +11,12 @@ use Rattle.sp_decimal.specs.Numerals.{IsFraction}
 -- the fraction is the number of those digits with so many decimal places: at most thirty digits, and at most thirty places
 pub record IsWritten (top bottom digits places : ℕ) : Type 0 where
   pub equal : digits * bottom ≡ top * 10 ^ places
-  pub small : digits < 10 ^ 30
-  pub short : places ≤ 30
+  pub small : digits < huge_from
+  pub short : places ≤ most_places
 
 -- the fraction is 10^30 or more
 abbrev pub IsLarge : ℕ → ℕ → Type 0
-IsLarge top bottom = 10 ^ 30 * bottom ≤ top
+IsLarge top bottom = huge_from * bottom ≤ top
 
 -- with its sign or without, the text is the word for a number without end
 abbrev pub IsEndless : List ℕ → Type 0
@@ -28,7 +29,7 @@ IsNumeral text = IsTrue (is_plain_numeral (unsigned text))
 -- the text is a numeral of a magnitude below 10^30
 pub record IsOrdinary (text : List ℕ) : Type 0 where
   pub plain : IsNumeral text
-  pub below : top (unsigned text) < 10 ^ 30 * bottom (unsigned text)
+  pub below : top (unsigned text) < huge_from * bottom (unsigned text)
 
 -- what each answer says of the text:
 -- it is endless or a numeral of 10^30 or more, below 0 where a minus stands first;

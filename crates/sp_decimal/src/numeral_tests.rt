@@ -1,3 +1,4 @@
+//! Numerals with what they are read as, written by hand.
 use crate::{Numeral, NumeralFault};
 use std::process::Abort;
 

@@ -4,7 +4,7 @@ ghost use Rattle.std.specs.Prelude.{◌≡◌, not, true, IfSome, is_some, optio
 ghost use Rattle.std.specs.List.{position_or_len, list_all};
 ghost use Rattle.std.specs.Char.{is_ascii_digit};
 ghost use Rattle.sp_decimal.specs.Grammar.{has_minus, unsigned, is_infinity, some_digits, is_plain_numeral};
-ghost use Rattle.sp_decimal.specs.Parts.{IsDigitRun, BeginsWith, power_behind, IsCut};
+ghost use Rattle.sp_decimal.specs.InnerParts.{IsDigitRun, BeginsWith, power_behind, IsCut};
 
 /// Whether a minus stands first, and the text without the sign that it may begin with.
 pub(crate) fn split_sign(text: &[u8]) -> (bool, &[u8])
@@ -38,7 +38,7 @@ fn digit_count(text: &[u8]) -> usize
 }
 
 /// The digits that stand first, and the rest.
-#[tactic(auto, using(crate::proofs::DigitRuns::runs))]
+#[tactic(auto, using(crate::proofs::DigitRunLemmas::runs))]
 fn split_digits(text: &[u8]) -> (&[u8], &[u8])
     ensures { IsDigitRun text.now result.0.now result.1.now }
 {
@@ -46,7 +46,7 @@ fn split_digits(text: &[u8]) -> (&[u8], &[u8])
 }
 
 /// Whether the text is one digit or more.
-#[tactic(auto, using(crate::proofs::DigitRuns::runs))]
+#[tactic(auto, using(crate::proofs::DigitRunLemmas::runs))]
 fn is_digits(text: &[u8]) -> bool
     ensures { result ≡ some_digits text.now }
 {

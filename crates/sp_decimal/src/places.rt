@@ -4,12 +4,18 @@ ghost use Rattle.std.specs.Prelude.{◌≡◌, ℕ, ◌<◌, ◌^◌, length, mi
 ghost use Rattle.std.specs.List.{list_all};
 ghost use Rattle.std.specs.Char.{is_ascii_digit};
 ghost use Rattle.sp_decimal.specs.Grammar.{unsigned, raised_by, lowered_by, value_of};
-ghost use Rattle.sp_decimal.specs.Places.{IsPlace};
+ghost use Rattle.sp_decimal.specs.InnerPlaces.{IsPlace};
 
 use crate::parts::split_sign;
 
 /// What an exponent says from this number on is the same for all: no text is so long.
 pub(crate) const FAR: u128 = 1 << 100;
+
+/// The most digits of a decimal.
+const MOST_DIGITS: u128 = 30;
+
+/// The most digits of a decimal that stand behind the point.
+const MOST_PLACES: u128 = 30;
 
 /// How a number of digits is answered.
 #[derive(Clone, Copy)]
@@ -80,13 +86,13 @@ pub(crate) fn place_of(size: u128, raised: u128, lowered: u128) -> Place
     requires lowered { lowered < 2 ^ 110 }
     ensures { IsPlace size raised lowered result }
 {
-    if 30 + lowered < size + raised {
+    if MOST_DIGITS + lowered < size + raised {
         Place::TooLarge
     } else if lowered <= raised {
         Place::Whole {
             zeros: (raised - lowered) as u32,
         }
-    } else if size <= 30 && lowered - raised <= 30 {
+    } else if size <= MOST_DIGITS && lowered - raised <= MOST_PLACES {
         Place::Decimals {
             places: (lowered - raised) as u8,
         }

@@ -1,8 +1,10 @@
+//! The texts of numbers with decimal places.
 ghost use Rattle.std.specs.Prelude.{◌≡◌, ◌+◌, ◌-◌, ◌<◌, ◌≤◌, ◌^◌, if◌then◌else◌, [], ◌∷◌, ◌++◌, length, take, List, ℕ, ◌==◌, unsigned_abs};
 ghost use Rattle.std.specs.Fmt.{sign_text};
 ghost use Rattle.std.specs.Int.{is_negative};
+ghost use Rattle.sp_decimal.specs.DecimalFraction.{most_places};
 ghost use Rattle.sp_decimal.specs.Numerals.{numeral, fraction_numeral};
-ghost use Rattle.sp_decimal.specs.Printing.{printed, printed_size, without_zeros, HasValue, HaveOneValue, IsNormalForm};
+ghost use Rattle.sp_decimal.specs.Printing.{longest_text, printed, printed_size, without_zeros, HasValue, HaveOneValue, IsNormalForm};
 
 use itoa::Buffer;
 use std::marker::Model;
@@ -22,19 +24,20 @@ pub struct Printed {
 
 impl Model for Printed {
     ghost use Rattle.std.specs.Prelude.{ℕ, ◌≤◌, List, take};
+    ghost use Rattle.sp_decimal.specs.Printing.{longest_text};
 
     ghost Value = { List ℕ };
 
     ghost view = { λ text. take text.len text.bytes };
 
-    ghost invariant = { λ text. text.len ≤ 41 };
+    ghost invariant = { λ text. text.len ≤ longest_text };
 }
 
 impl Printed {
     /// The bytes of the text, at most 41.
     pub fn as_bytes(&self) -> &[u8]
         ensures value { result.now ≡ self.now }
-        ensures short { length result.now ≤ 41 }
+        ensures short { length result.now ≤ longest_text }
     {
         let (text, _) = self.bytes.split_at(self.len);
         text
@@ -52,7 +55,7 @@ impl Printed {
 
     /// Adds the piece at the end.
     fn put(&mut self, piece: &[u8])
-        requires { length self.old + length piece.now ≤ 41 }
+        requires { length self.old + length piece.now ≤ longest_text }
         ensures { self.new ≡ self.old ++ piece.now }
     {
         let end = self.len + piece.len();
@@ -65,7 +68,7 @@ impl Printed {
 /// front but the one that stands alone, and, where the number isn't whole, a point and the digits up to the last that
 /// isn't 0. It takes no memory.
 pub fn print(z: i128, s: u8) -> Printed
-    requires { s ≤ 30 }
+    requires { s ≤ most_places }
     ensures exact { result ≡ printed z s }
     ensures normal { IsNormalForm result }
     ensures value { HasValue result z s }
@@ -90,7 +93,7 @@ fn sign_of(z: &i128) -> &'static [u8]
 /// The text of `n / 10^s` behind the sign.
 fn print_size(sign: &[u8], n: u128, s: u8) -> Printed
     requires sign { length sign.now ≤ 1 }
-    requires places { s ≤ 30 }
+    requires places { s ≤ most_places }
     ensures { result ≡ sign.now ++ printed_size n s }
 {
     let mut buffer = Buffer::new();

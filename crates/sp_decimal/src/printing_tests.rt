@@ -1,3 +1,4 @@
+//! Numbers with their printed texts, and decimals rounded and scaled.
 use crate::decimals::Decimal;
 use crate::printing::print;
 use crate::rounding::{ceil, floor, scaled};

@@ -3,9 +3,10 @@
 ghost use Rattle.std.specs.Prelude.{◌≡◌, ◌≢◌, ℕ, ◌+◌, ◌*◌, ◌%◌, ◌^◌, ◌<◌, ◌≤◌, true, length};
 ghost use Rattle.std.specs.List.{list_all};
 ghost use Rattle.std.specs.Char.{is_ascii_digit};
+ghost use Rattle.sp_decimal.specs.DecimalFraction.{most_digits, most_places, huge_from};
 ghost use Rattle.sp_decimal.specs.Grammar.{unsigned, raised_by, lowered_by};
 ghost use Rattle.sp_decimal.specs.Numerals.{signed, fraction_numeral};
-ghost use Rattle.sp_decimal.specs.Significands.{number_of};
+ghost use Rattle.sp_decimal.specs.InnerSignificands.{number_of};
 
 use crate::decimals::Decimal;
 use crate::numerals::{Numeral, NumeralFault};
@@ -15,7 +16,7 @@ use crate::significands::{Stripped, number, strip};
 
 /// The number of the digits, with the sign.
 fn with_sign(negative: bool, digits: u128) -> i128
-    requires { digits < 10 ^ 30 }
+    requires { digits < huge_from }
     ensures { result ≡ signed negative digits }
 {
     let p = digits as i128;
@@ -24,8 +25,8 @@ fn with_sign(negative: bool, digits: u128) -> i128
 
 /// The decimal of these digits, of which so many stand behind the point.
 fn decimal(negative: bool, digits: u128, places: u8) -> Decimal
-    requires small { digits < 10 ^ 30 }
-    requires short { places ≤ 30 }
+    requires small { digits < huge_from }
+    requires short { places ≤ most_places }
     requires least { 0 < places → digits % 10 ≢ 0 }
     ensures { result ≡ record { p = signed negative digits; s = places } }
 {
@@ -39,7 +40,7 @@ fn decimal(negative: bool, digits: u128, places: u8) -> Decimal
 fn whole_number(head: &[u8], tail: &[u8], zeros: u32) -> u128
     requires head { list_all is_ascii_digit head.now ≡ true }
     requires tail { list_all is_ascii_digit tail.now ≡ true }
-    requires short { length head.now + length tail.now + zeros ≤ 30 }
+    requires short { length head.now + length tail.now + zeros ≤ most_digits }
     ensures { result ≡ number_of head.now tail.now * 10 ^ zeros }
 {
     number(head, tail) * 10u128.pow(zeros)

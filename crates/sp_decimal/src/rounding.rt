@@ -1,6 +1,8 @@
+//! Decimals as whole numbers: scaled by a power of ten, rounded down and rounded up.
 ghost use Rattle.std.specs.Prelude.{◌≡◌, ◌-◌, ◌^◌, ◌<◌, ◌≤◌, pos, ◌*ℤ◌, unsigned_abs, SomeIff, FitsSigned};
 ghost use Rattle.std.specs.Int.{w128};
-ghost use Rattle.sp_decimal.specs.Rounding.{IsFloor, IsCeil};
+ghost use Rattle.sp_decimal.specs.DecimalFraction.{most_places, huge_from};
+ghost use Rattle.sp_decimal.specs.Rounding.{IsFloor, IsCeil, floor_of, ceil_of};
 
 use crate::decimals::Decimal;
 
@@ -43,7 +45,7 @@ static POWERS: [u128; 31] = [
 /// exactly where that number passes 128 bits with the sign.
 pub fn scaled(d: &Decimal, s: u8) -> Option<i128>
     requires places { d.now.s ≤ s }
-    requires most { s ≤ 30 }
+    requires most { s ≤ most_places }
     ensures { let units = d.now.p *ℤ pos (10 ^ (s - d.now.s)) in SomeIff result (FitsSigned w128 units) units }
 {
     d.p.checked_mul(power_of_ten(s - d.s) as i128)
@@ -52,7 +54,8 @@ pub fn scaled(d: &Decimal, s: u8) -> Option<i128>
 /// The greatest whole number that isn't above the decimal. Its magnitude is below 10^30.
 pub fn floor(d: &Decimal) -> i128
     ensures greatest { IsFloor d.now result }
-    ensures small { unsigned_abs result < 10 ^ 30 }
+    ensures value { result ≡ floor_of d.now }
+    ensures small { unsigned_abs result < huge_from }
 {
     let unit = power_of_ten(d.s);
     let size = d.p.unsigned_abs();
@@ -66,7 +69,8 @@ pub fn floor(d: &Decimal) -> i128
 /// The least whole number that isn't below the decimal. Its magnitude is below 10^30.
 pub fn ceil(d: &Decimal) -> i128
     ensures least { IsCeil d.now result }
-    ensures small { unsigned_abs result < 10 ^ 30 }
+    ensures value { result ≡ ceil_of d.now }
+    ensures small { unsigned_abs result < huge_from }
 {
     let unit = power_of_ten(d.s);
     let size = d.p.unsigned_abs();
@@ -79,10 +83,10 @@ pub fn ceil(d: &Decimal) -> i128
 
 /// Ten to this exponent.
 pub(crate) fn power_of_ten(exponent: u8) -> u128
-    requires { exponent ≤ 30 }
+    requires { exponent ≤ most_places }
     ensures value { result ≡ 10 ^ exponent }
     ensures positive { 0 < result }
-    ensures small { result ≤ 10 ^ 30 }
+    ensures small { result ≤ huge_from }
 {
     POWERS[usize::from(exponent)]
 }

@@ -4,7 +4,7 @@ ghost use Rattle.std.specs.Prelude.{◌≡◌, ℕ, ◌+◌, ◌*◌, ◌^◌, �
 ghost use Rattle.std.specs.List.{list_all};
 ghost use Rattle.std.specs.Char.{is_ascii_digit};
 ghost use Rattle.sp_decimal.specs.Grammar.{value_of};
-ghost use Rattle.sp_decimal.specs.Significands.{number_of, IsFrontTrimmed, IsBackTrimmed, IsStripped};
+ghost use Rattle.sp_decimal.specs.InnerSignificands.{number_of, IsFrontTrimmed, IsBackTrimmed, IsStripped};
 
 /// The digits without the zeros that stand first.
 fn without_leading_zeros(digits: &[u8]) -> &[u8]

@@ -1,8 +1,8 @@
-pub mod CutLaws
-pub mod EntryLaws
-pub mod FoldLaws
-pub mod PieceLaws
-pub mod RowLaws
-pub mod TableLaws
-pub mod TestLaws
-pub mod WordLaws
+pub mod CutLemmas
+pub mod EntryLemmas
+pub mod FoldLemmas
+pub mod PieceLemmas
+pub mod RowLemmas
+pub mod TableLemmas
+pub mod TestLemmas
+pub mod WordLemmas

@@ -1,5 +1,5 @@
-pub mod Entries
-pub mod Kept
+pub mod InnerEntries
+pub mod InnerKept
 pub mod Rows
 pub mod Spellings
 pub mod Words

@@ -1,7 +1,7 @@
 -- The rows of a table.
 use Rattle.std.specs.Prelude.{ℕ, List}
 use Rattle.sp_words.specs.Rows.{Row}
-use Rattle.sp_words.specs.Entries.{rows_of}
+use Rattle.sp_words.specs.InnerEntries.{rows_of}
 use Rattle.sp_words.specs.declared.keywords.Words.{Words}
 
 -- the spellings of the table in their order, each with its code

@@ -2,7 +2,7 @@
 ghost use Rattle.std.specs.Prelude.{◌≡◌, ◌≢◌, ◌≤◌, length, MatchOption};
 ghost use Rattle.std.specs.List.{All, zip, position_or_len};
 ghost use Rattle.sp_words.specs.Spellings.{is_blank, spellings};
-ghost use Rattle.sp_words.specs.Entries.{IsCut};
+ghost use Rattle.sp_words.specs.InnerEntries.{IsCut};
 
 use crate::entries::Entry;
 
@@ -15,7 +15,7 @@ fn word_len(rest: &[u8]) -> usize
 }
 
 /// The entries of the spellings in the text, each with the code at its place; `None` where there are not `N` spellings.
-#[tactic(auto, using(crate::proofs::CutLaws::ends, crate::proofs::CutLaws::too_many))]
+#[tactic(auto, using(crate::proofs::CutLemmas::ends, crate::proofs::CutLemmas::too_many))]
 pub(crate) fn cut<const N: usize>(text: &[u8], codes: &[u16; N]) -> Option<[Entry; N]>
     ensures { MatchOption result (length (spellings text.now) ≢ N) (λ entries. IsCut N text.now codes.now entries) }
 {

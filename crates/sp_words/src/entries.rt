@@ -3,7 +3,7 @@ ghost use Rattle.std.specs.Prelude.{◌≡◌};
 ghost use Rattle.std.specs.List.{All, list_any};
 ghost use Rattle.sp_words.specs.Spellings.{same_word, are_keywords};
 ghost use Rattle.sp_words.specs.Rows.{code_of, words_of};
-ghost use Rattle.sp_words.specs.Entries.{IsWithin, spelling_at, rows_of};
+ghost use Rattle.sp_words.specs.InnerEntries.{IsWithin, spelling_at, rows_of};
 
 /// A spelling by its place in the text, and the code beside it.
 #[derive(Clone, Copy, Debug)]
@@ -18,7 +18,7 @@ pub(crate) struct Entry {
 
 impl Entry {
     /// Whether the entry's spelling in the text is the word when ASCII case is ignored.
-    #[tactic(auto, using(crate::proofs::WordLaws::same_word_from_test))]
+    #[tactic(auto, using(crate::proofs::WordLemmas::same_word_from_test))]
     fn is_word(&self, text: &[u8], word: &[u8]) -> bool
         requires { IsWithin text.now self.now }
         ensures { result ≡ same_word word.now (spelling_at text.now self.now) }
@@ -28,7 +28,7 @@ impl Entry {
 }
 
 /// The code of the first entry that is the word.
-#[tactic(auto, using(crate::proofs::EntryLaws::found_here, crate::proofs::EntryLaws::not_here))]
+#[tactic(auto, using(crate::proofs::EntryLemmas::found_here, crate::proofs::EntryLemmas::not_here))]
 pub(crate) fn code_among(text: &[u8], entries: &[Entry], word: &[u8]) -> Option<u16>
     requires { All (IsWithin text.now) entries.now }
     ensures { result ≡ code_of word.now (rows_of text.now entries.now) }
@@ -42,7 +42,7 @@ pub(crate) fn code_among(text: &[u8], entries: &[Entry], word: &[u8]) -> Option<
 }
 
 /// Whether one of the entries is the word.
-#[tactic(auto, using(crate::proofs::RowLaws::is_some_code_of))]
+#[tactic(auto, using(crate::proofs::RowLemmas::is_some_code_of))]
 fn is_among(text: &[u8], entries: &[Entry], word: &[u8]) -> bool
     requires { All (IsWithin text.now) entries.now }
     ensures { result ≡ list_any (same_word word.now) (words_of (rows_of text.now entries.now)) }
@@ -51,7 +51,7 @@ fn is_among(text: &[u8], entries: &[Entry], word: &[u8]) -> bool
 }
 
 /// Whether no entry is empty, and no two are the same word.
-#[tactic(auto, using(crate::proofs::EntryLaws::keywords_repeat, crate::proofs::EntryLaws::keywords_more))]
+#[tactic(auto, using(crate::proofs::EntryLemmas::keywords_repeat, crate::proofs::EntryLemmas::keywords_more))]
 pub(crate) fn have_keywords(text: &[u8], entries: &[Entry]) -> bool
     requires { All (IsWithin text.now) entries.now }
     ensures { result ≡ are_keywords (words_of (rows_of text.now entries.now)) }

@@ -3,7 +3,7 @@ ghost use Rattle.std.specs.Prelude.{◌≡◌, ℕ, ◌↔◌, IsSome, IsNone, I
 ghost use Rattle.std.specs.List.{All, zip};
 ghost use Rattle.sp_words.specs.Spellings.{spellings, same_word, is_table, IsTable};
 ghost use Rattle.sp_words.specs.Rows.{words_of, code_of, IsCodeFor};
-ghost use Rattle.sp_words.specs.Kept.{IsKept};
+ghost use Rattle.sp_words.specs.InnerKept.{IsKept};
 
 use crate::cutting::cut;
 use crate::entries::{Entry, code_among, have_keywords};
@@ -29,7 +29,7 @@ impl<const N: usize> Words<N> {
     ///
     /// `None` exactly where there are not `N` spellings, one is empty, or two are the same word when ASCII case is ignored.
     /// The empty text has no spelling; a blank at either end, and two in a row, make an empty one.
-    #[tactic(auto, using(crate::proofs::TableLaws::keeps, crate::proofs::TableLaws::taken, crate::proofs::TableLaws::refused), unfolding(crate::specs::Words::rows_in))]
+    #[tactic(auto, using(crate::proofs::TableLemmas::keeps, crate::proofs::TableLemmas::taken, crate::proofs::TableLemmas::refused), unfolding(crate::specs::Words::rows_in))]
     pub fn new(words: &'static str, codes: [u16; N]) -> Option<Words<N>>
         ensures made { IsSome result ↔ IsTrue (is_table words.now N) }
         ensures rows { IfSome result (λ table. rows_in table ≡ zip (spellings words.now) codes.entry) }
@@ -51,7 +51,7 @@ impl<const N: usize> Words<N> {
     /// The code of the row that equals the word when ASCII case is ignored; `None` exactly where no row does.
     ///
     /// Only A to Z fold: a byte above 127 equals itself alone. A row is compared byte by byte only where it is as long as the word.
-    #[tactic(auto, using(crate::proofs::RowLaws::none_or_other), unfolding(crate::specs::Words::rows_in))]
+    #[tactic(auto, using(crate::proofs::RowLemmas::none_or_other), unfolding(crate::specs::Words::rows_in))]
     pub fn find(&self, word: &[u8]) -> Option<u16>
         ensures code { result ≡ code_of word.now (rows_in self.now) }
         ensures row { (code : ℕ) → (result ≡ Some code) ↔ IsCodeFor (rows_in self.now) word.now code }

@@ -1,4 +1,4 @@
-use Rattle.sp_decimal.proofs.ReadingLaws.{reading-iff, reading-unique}
+use Rattle.sp_decimal.proofs.ReadingLemmas.{reading-iff, reading-unique}
 use Rattle.sp_decimal.proofs.numeral_laws.numerals_have_one_reading.Goals as goal
 
 pub returns-clause-says : goal.returns-clause-says

@@ -1,5 +1,5 @@
 use Rattle.std.proofs.Common.{sym}
-use Rattle.sp_decimal.proofs.CutLaws.{plain-none, plain-cut, plain-bad, cut-by_parts, power-digits}
+use Rattle.sp_decimal.proofs.CutLemmas.{plain-none, plain-cut, plain-bad, cut-by_parts, power-digits}
 use Rattle.sp_decimal.proofs.parts.cut.Goals as goal
 
 pub returns-then-has_none-clause-plain : goal.returns-then-has_none-clause-plain

@@ -1,5 +1,5 @@
 use Rattle.std.proofs.Common.{sym, ◌∙◌, arith}
-use Rattle.sp_decimal.proofs.DigitRuns.{run-stops, run-whole}
+use Rattle.sp_decimal.proofs.DigitRunLemmas.{run-stops, run-whole}
 use Rattle.sp_decimal.proofs.parts.digit_count.Goals as goal
 
 pub returns-then-not-is_ascii_digit : goal.returns-then-not-is_ascii_digit

@@ -1,9 +1,9 @@
 use Rattle.std.proofs.Common.{refl, arith}
 use Rattle.std.specs.Int.{w128}
 use Rattle.std.proofs.lemmas.Int.{to_z-of_z}
-use Rattle.sp_decimal.proofs.PrintedForm.{printed-normal}
-use Rattle.sp_decimal.proofs.PrintedText.{printed_from}
-use Rattle.sp_decimal.proofs.PrintedValue.{printed-reads, printed-value}
+use Rattle.sp_decimal.proofs.PrintedFormLemmas.{printed-normal}
+use Rattle.sp_decimal.proofs.PrintedTextLemmas.{printed_from}
+use Rattle.sp_decimal.proofs.PrintedValueLemmas.{printed-reads, printed-value}
 use Rattle.sp_decimal.proofs.printing.print.Goals as goal
 
 pub returns : goal.returns

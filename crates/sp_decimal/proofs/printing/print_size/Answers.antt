@@ -1,6 +1,6 @@
 use Rattle.std.proofs.Common.{◌≡◌, ◌-◌, length, replicate, ◌∙◌, arith}
 use Rattle.std.proofs.lemmas.List.{take-replicate}
-use Rattle.sp_decimal.proofs.PrintedText.{long_text, short_text}
+use Rattle.sp_decimal.proofs.PrintedTextLemmas.{long_text, short_text}
 use Rattle.sp_decimal.proofs.printing.print_size.Goals as goal
 
 pub joined-requires : goal.joined-requires

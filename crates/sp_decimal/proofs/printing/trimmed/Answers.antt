@@ -1,5 +1,5 @@
 use Rattle.std.proofs.Common.{sym, ◌∙◌, arith}
-use Rattle.sp_decimal.proofs.TrailingZeros.{without_zeros-take}
+use Rattle.sp_decimal.proofs.TrailingZeroLemmas.{without_zeros-take}
 use Rattle.sp_decimal.proofs.printing.trimmed.Goals.{then-loop-end-test+else-digits-end-eq48, else-loop-end-test}
 use Rattle.sp_decimal.proofs.printing.trimmed.Goals as goal
 

@@ -1,4 +1,4 @@
-use Rattle.sp_decimal.proofs.OneForm.{one_form}
+use Rattle.sp_decimal.proofs.OneFormLemmas.{one_form}
 use Rattle.sp_decimal.proofs.printing.values_have_one_text.Goals as goal
 
 pub returns : goal.returns

@@ -1,6 +1,6 @@
 use Rattle.std.proofs.Common.{◌∙◌, arith}
 use Rattle.sp_decimal.specs.declared.places.Place.TheVariants.{TooLarge, Whole, Decimals, TooFine}
-use Rattle.sp_decimal.proofs.ReadLaws.{value-zero, value-at, whole-small, digits-fit, exact-whole, exact-decimals}
+use Rattle.sp_decimal.proofs.ReadLemmas.{value-zero, value-at, whole-small, digits-fit, exact-whole, exact-decimals}
 use Rattle.sp_decimal.proofs.reading.value.Goals as goal
 
 pub returns-then-size-eq0 : goal.returns-then-size-eq0

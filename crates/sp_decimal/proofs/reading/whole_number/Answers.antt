@@ -1,5 +1,5 @@
 use Rattle.std.proofs.Common.{arith}
-use Rattle.sp_decimal.proofs.ReadLaws.{power-fits, whole-fits}
+use Rattle.sp_decimal.proofs.ReadLemmas.{power-fits, whole-fits}
 use Rattle.sp_decimal.proofs.reading.whole_number.Goals as goal
 
 pub pow-requires : goal.pow-requires

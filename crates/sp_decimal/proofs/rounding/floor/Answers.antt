@@ -1,7 +1,8 @@
 use Rattle.std.proofs.Common.{◌^◌, ◌≡◌, pos, neg_ℤ, sym, ap, ◌∙◌, arith}
 use Rattle.std.proofs.lemmas.Int.{ints}
 use Rattle.sp_decimal.specs.DecimalFraction.{DecimalFraction}
-use Rattle.sp_decimal.proofs.RoundingLaws.{floor_positive, floor_negative, div_ceil-le, div-le}
+use Rattle.sp_decimal.proofs.FloorLemmas.{floor-is}
+use Rattle.sp_decimal.proofs.RoundingLemmas.{floor_positive, floor_negative, div_ceil-le, div-le}
 use Rattle.sp_decimal.proofs.rounding.floor.Goals as goal
 
 pub returns-then-d-lt0-clause-greatest : goal.returns-then-d-lt0-clause-greatest
@@ -21,3 +22,9 @@ returns-else-d-lt0-clause-greatest c =
     let size : c.d.inside.p ≡ pos n = omega (arith, ints) in
     floor_positive _ n t _ (ap (λ (d : DecimalFraction). d.p) (sym c.d.view_is) ∙ size)
     (c.power_of_ten-unit.ensures.value ∙ ap (λ (d : DecimalFraction). 10 ^ d.s) c.d.view_is) c.power_of_ten-unit.ensures.positive (omega (arith, ints))
+
+pub returns-then-d-lt0-clause-value : goal.returns-then-d-lt0-clause-value
+returns-then-d-lt0-clause-value c = floor-is _ _ (returns-then-d-lt0-clause-greatest c)
+
+pub returns-else-d-lt0-clause-value : goal.returns-else-d-lt0-clause-value
+returns-else-d-lt0-clause-value c = floor-is _ _ (returns-else-d-lt0-clause-greatest c)

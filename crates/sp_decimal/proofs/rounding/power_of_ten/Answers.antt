@@ -1,5 +1,5 @@
 use Rattle.std.proofs.Common.{refl}
-use Rattle.sp_decimal.proofs.Powers.{power_at, power-positive, power-small}
+use Rattle.sp_decimal.proofs.PowerLemmas.{power_at, power-positive, power-small}
 use Rattle.sp_decimal.proofs.rounding.power_of_ten.Goals as goal
 
 pub returns : goal.returns

@@ -1,6 +1,6 @@
 use Rattle.std.proofs.Common.{◌^◌, ◌+◌, ◌*◌, ◌-◌, get_or, refl, ap, ◌∙◌, arith}
 use Rattle.std.proofs.lemmas.List.{take_all}
-use Rattle.sp_decimal.proofs.DigitValues.{room-at, fold-step, fold-value, next_value}
+use Rattle.sp_decimal.proofs.DigitValueLemmas.{room-at, fold-step, fold-value, next_value}
 use Rattle.std.specs.List.{fold}
 use Rattle.sp_decimal.proofs.significands.append.Goals as goal
 

@@ -1,5 +1,5 @@
 use Rattle.std.proofs.Common.{length}
-use Rattle.sp_decimal.proofs.DigitValues.{room-head, room-tail}
+use Rattle.sp_decimal.proofs.DigitValueLemmas.{room-head, room-tail}
 use Rattle.sp_decimal.proofs.significands.number.Goals as goal
 
 pub append_short-requires-then-head-tail-le19-clause-fits :

@@ -1,6 +1,6 @@
 use Rattle.std.proofs.Common.{◌≡◌, ◌<◌, length, arith}
 use Rattle.std.proofs.lemmas.Bool.Decides.{nat_tests}
-use Rattle.sp_decimal.proofs.StripLaws.{strip-whole, strip-fraction, strip-both}
+use Rattle.sp_decimal.proofs.StripLemmas.{strip-whole, strip-fraction, strip-both}
 use Rattle.sp_decimal.proofs.significands.strip.Goals as goal
 
 pub returns-then-is_empty : goal.returns-then-is_empty

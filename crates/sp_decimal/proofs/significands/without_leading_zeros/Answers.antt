@@ -1,6 +1,6 @@
 use Rattle.std.proofs.Common.{arith}
 use Rattle.std.proofs.lemmas.List.{take_rest, length-drop}
-use Rattle.sp_decimal.proofs.DigitValues.{digits-drop, first-drop}
+use Rattle.sp_decimal.proofs.DigitValueLemmas.{digits-drop, first-drop}
 use Rattle.sp_decimal.proofs.significands.without_leading_zeros.Goals as goal
 
 pub returns-then-digits-i-ne48 : goal.returns-then-digits-i-ne48

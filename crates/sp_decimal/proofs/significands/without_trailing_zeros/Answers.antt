@@ -1,5 +1,5 @@
 use Rattle.std.proofs.Common.{arith}
-use Rattle.sp_decimal.proofs.DigitValues.{back-trimmed, zero-take}
+use Rattle.sp_decimal.proofs.DigitValueLemmas.{back-trimmed, zero-take}
 use Rattle.sp_decimal.proofs.significands.without_trailing_zeros.Goals as goal
 
 pub returns-then-digits-end-ne48 : goal.returns-then-digits-end-ne48

@@ -1,5 +1,5 @@
 use Rattle.std.proofs.Common.{arith}
-use Rattle.sp_words.proofs.CutLaws.{goes_on}
+use Rattle.sp_words.proofs.CutLemmas.{goes_on}
 use Rattle.sp_words.proofs.cutting.cut.Goals as goal
 
 pub loop-i-preserved : goal.loop-i-preserved

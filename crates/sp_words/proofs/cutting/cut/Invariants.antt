@@ -1,4 +1,4 @@
-use Rattle.sp_words.proofs.CutLaws.{IsCutUpTo}
+use Rattle.sp_words.proofs.CutLemmas.{IsCutUpTo}
 use Rattle.sp_words.proofs.cutting.cut.Given as goal
 
 abbrev pub invariant-loop-i : goal.invariant-loop-i

@@ -1,6 +1,6 @@
 use Rattle.std.proofs.Common.{◌≡◌, drop}
 use Rattle.sp_words.specs.Rows.{code_of}
-use Rattle.sp_words.specs.Entries.{rows_of}
+use Rattle.sp_words.specs.InnerEntries.{rows_of}
 use Rattle.sp_words.proofs.entries.code_among.Given as goal
 
 abbrev pub invariant-loop-entry : goal.invariant-loop-entry

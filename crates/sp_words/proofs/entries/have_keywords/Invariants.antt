@@ -1,7 +1,7 @@
 use Rattle.std.proofs.Common.{◌≡◌, drop}
 use Rattle.sp_words.specs.Spellings.{are_keywords}
 use Rattle.sp_words.specs.Rows.{words_of}
-use Rattle.sp_words.specs.Entries.{rows_of}
+use Rattle.sp_words.specs.InnerEntries.{rows_of}
 use Rattle.sp_words.proofs.entries.have_keywords.Given as goal
 
 abbrev pub invariant-loop-i : goal.invariant-loop-i

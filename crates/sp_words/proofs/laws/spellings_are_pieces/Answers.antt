@@ -1,4 +1,4 @@
-use Rattle.sp_words.proofs.PieceLaws.{spellings_join, spellings_part, spellings_empty}
+use Rattle.sp_words.proofs.PieceLemmas.{spellings_join, spellings_part, spellings_empty}
 use Rattle.sp_words.proofs.laws.spellings_are_pieces.Goals as goal
 
 pub returns-clause-joined : goal.returns-clause-joined

@@ -1,4 +1,4 @@
-use Rattle.sp_words.proofs.TestLaws.{test_or_table}
+use Rattle.sp_words.proofs.TestLemmas.{test_or_table}
 use Rattle.sp_words.proofs.laws.tables_are_tested.Goals as goal
 
 pub returns : goal.returns

@@ -1,4 +1,4 @@
-use Rattle.sp_decimal.proofs.ReadLaws.{numeral-endless, numeral-cut, numeral-none}
+use Rattle.sp_decimal.proofs.ReadLemmas.{numeral-endless, numeral-cut, numeral-none}
 use Rattle.sp_decimal.proofs.numerals.Numeral.read.Goals as goal
 
 pub returns-then-is_endless : goal.returns-then-is_endless

@@ -1,5 +1,5 @@
 use Rattle.sp_words.specs.Words.{rows_in}
-use Rattle.sp_words.proofs.RowLaws.{code_or_row}
+use Rattle.sp_words.proofs.RowLemmas.{code_or_row}
 use Rattle.sp_words.proofs.keywords.Words.find.Goals as goal
 
 pub returns-clause-row : goal.returns-clause-row

@@ -7,9 +7,9 @@ use Rattle.std.proofs.lemmas.Bool.Decides.{nat_tests}
 use Rattle.std.proofs.lemmas.Nat.{pow-add, mul-le}
 use Rattle.std.proofs.Math.Nat.{pow-succ', mul_assoc, mul_left_comm, mul_right_comm, pow-le-pow_right, eq_of_mul-eq-mul_right}
 use Rattle.sp_decimal.specs.Grammar.{value_of}
-use Rattle.sp_decimal.proofs.DroppedZeros.{value_behind, last_of, last_of-cons}
-use Rattle.sp_decimal.proofs.PointPlaces.{and_left, and_right, digit-least}
-use Rattle.sp_decimal.proofs.Powers.{power-positive}
+use Rattle.sp_decimal.proofs.DroppedZeroLemmas.{value_behind, last_of, last_of-cons}
+use Rattle.sp_decimal.proofs.PointPlaceLemmas.{and_left, and_right, digit-least}
+use Rattle.sp_decimal.proofs.PowerLemmas.{power-positive}
 
 -- the digits are decimal ones
 record Digits (xs : List ℕ) : Type 0 where

@@ -6,8 +6,8 @@ use Rattle.std.proofs.lemmas.Bool.Decides.{nat_tests}
 use Rattle.std.specs.List.{list_all, list_any, position_or_len, before_first, after_first}
 use Rattle.std.specs.Char.{is_ascii_digit}
 use Rattle.sp_decimal.specs.Grammar.{is_point, is_exponent_letter, some_digits, unsigned, mantissa, exponent, whole_part, fraction_part, is_mantissa, is_plain_numeral}
-use Rattle.sp_decimal.proofs.DigitRuns.{both}
-use Rattle.sp_decimal.specs.Parts.{BeginsWith, power_behind, IsCut}
+use Rattle.sp_decimal.proofs.DigitRunLemmas.{both}
+use Rattle.sp_decimal.specs.InnerParts.{BeginsWith, power_behind, IsCut}
 
 one_more : (n : ℕ) → 1 + n ≡ suc n
 one_more n = omega arith

@@ -9,7 +9,7 @@ use Rattle.std.proofs.lemmas.List.Folds.{list_any-append, list_all-append}
 use Rattle.sp_decimal.specs.Grammar.{value_of, some_digits, has_minus, unsigned, is_point, is_exponent_letter, mantissa, exponent, whole_part, fraction_part, is_mantissa, is_plain_numeral, is_infinity, raised_by, lowered_by, top, bottom}
 use Rattle.sp_decimal.specs.Numerals.{numeral, fraction_numeral}
 use Rattle.sp_decimal.specs.Printing.{with_point}
-use Rattle.sp_decimal.proofs.PointPlaces.{and_left, digit-not_letter, digit-not_point, digit-not_sign, digit-not_minus, none_in_digits, before_first-none, after_first-none, before_first-at, after_first-at}
+use Rattle.sp_decimal.proofs.PointPlaceLemmas.{and_left, digit-not_letter, digit-not_point, digit-not_sign, digit-not_minus, none_in_digits, before_first-none, after_first-none, before_first-at, after_first-at}
 
 -- the digits of a whole part, and those behind the point
 pub record AreDigits (w f : List ℕ) : Type 0 where

@@ -6,8 +6,8 @@ use Rattle.std.proofs.lemmas.Bool.Decides.{nat_tests}
 use Rattle.std.proofs.Math.Nat.{pow-succ', mul_assoc}
 use Rattle.sp_decimal.specs.Grammar.{value_of}
 use Rattle.sp_decimal.specs.Printing.{is_zero, without_zeros}
-use Rattle.sp_decimal.proofs.PointPlaces.{and_left, and_right}
-use Rattle.sp_decimal.proofs.TrailingZeros.{by_without_zeros}
+use Rattle.sp_decimal.proofs.PointPlaceLemmas.{and_left, and_right}
+use Rattle.sp_decimal.proofs.TrailingZeroLemmas.{by_without_zeros}
 
 -- the number that digits stand for behind a number that was read already
 abbrev pub value_behind : ℕ → List ℕ → ℕ

@@ -8,15 +8,15 @@ use Rattle.std.proofs.Math.Nat.{add-mul, mul_assoc, mul_comm, mul_right_comm}
 use Rattle.sp_decimal.specs.Grammar.{value_of, unsigned, top, bottom}
 use Rattle.sp_decimal.specs.Numerals.{numeral, fraction_numeral}
 use Rattle.sp_decimal.specs.Printing.{filled, without_zeros, printed_size, printed, HasValue}
-use Rattle.sp_decimal.proofs.DroppedZeros.{value-without_zeros, digits-without_zeros, last-without_zeros}
-use Rattle.sp_decimal.proofs.FractionLaws.{fraction_numeral-equal}
-use Rattle.sp_decimal.proofs.LastDigits.{last_digits, length-last_digits, value-last_digits, digits-last_digits}
-use Rattle.sp_decimal.proofs.NumberText.{decimal-is, decimal-first}
-use Rattle.sp_decimal.proofs.PlainText.{AreDigits, plain, numeral-plain, has_minus-plain, unsigned-plain, top-plain, bottom-plain}
-use Rattle.sp_decimal.proofs.Powers.{power-positive}
-use Rattle.sp_decimal.proofs.PrintedText.{rest-filled}
-use Rattle.sp_decimal.proofs.RoundingLaws.{div-le}
-use Rattle.sp_decimal.proofs.TrailingZeros.{length-without_zeros}
+use Rattle.sp_decimal.proofs.DroppedZeroLemmas.{value-without_zeros, digits-without_zeros, last-without_zeros}
+use Rattle.sp_decimal.proofs.FractionLemmas.{fraction_numeral-equal}
+use Rattle.sp_decimal.proofs.LastDigitLemmas.{last_digits, length-last_digits, value-last_digits, digits-last_digits}
+use Rattle.sp_decimal.proofs.NumberTextLemmas.{decimal-is, decimal-first}
+use Rattle.sp_decimal.proofs.PlainTextLemmas.{AreDigits, plain, numeral-plain, has_minus-plain, unsigned-plain, top-plain, bottom-plain}
+use Rattle.sp_decimal.proofs.PowerLemmas.{power-positive}
+use Rattle.sp_decimal.proofs.PrintedTextLemmas.{rest-filled}
+use Rattle.sp_decimal.proofs.RoundingLemmas.{div-le}
+use Rattle.sp_decimal.proofs.TrailingZeroLemmas.{length-without_zeros}
 
 -- the digits of n / 10^s, parted at the point
 pub record IsParted (n s : ℕ) (w f : List ℕ) : Type 0 where

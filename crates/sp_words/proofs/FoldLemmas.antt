@@ -5,7 +5,7 @@ use Rattle.std.specs.Char.{to_ascii_lowercase}
 use Rattle.std.proofs.lemmas.Bool.{cases_lt}
 use Rattle.std.proofs.lemmas.Str.Ascii.{lowercase_is}
 use Rattle.sp_words.specs.Spellings.{IsCapitalOf, IsSameByte, same_word}
-use Rattle.sp_words.proofs.WordLaws.{lowered, same_word-true}
+use Rattle.sp_words.proofs.WordLemmas.{lowered, same_word-true}
 
 -- a byte and what it folds to
 record IsFolded (byte small : ℕ) : Type 0 where

@@ -6,8 +6,8 @@ use Rattle.std.proofs.lemmas.List.Elements.{All-nil, All-cons, All-tail}
 use Rattle.std.proofs.lemmas.List.Kept.{AllPairs-cons}
 use Rattle.std.proofs.lemmas.List.Folds.{list_any_none}
 use Rattle.sp_words.specs.Spellings.{spellings, same_word, is_empty_word, are_keywords, is_table, IsTable}
-use Rattle.sp_words.proofs.RowLaws.{Apart}
-use Rattle.sp_words.proofs.WordLaws.{same_word_joins}
+use Rattle.sp_words.proofs.RowLemmas.{Apart}
+use Rattle.sp_words.proofs.WordLemmas.{same_word_joins}
 
 abbrev pub Filled : List ℕ → Type 0
 Filled word = word ≢ []

@@ -5,10 +5,10 @@ use Rattle.std.proofs.lemmas.List.{length-map}
 use Rattle.std.proofs.lemmas.Slice.Zip.{firsts-zip}
 use Rattle.sp_words.specs.Spellings.{spellings, are_keywords, is_table}
 use Rattle.sp_words.specs.Rows.{Row, words_of}
-use Rattle.sp_words.specs.Entries.{IsCut, row_at, rows_of}
-use Rattle.sp_words.specs.Kept.{IsKept}
+use Rattle.sp_words.specs.InnerEntries.{IsCut, row_at, rows_of}
+use Rattle.sp_words.specs.InnerKept.{IsKept}
 use Rattle.sp_words.specs.declared.entries.Entry.{Entry}
-use Rattle.sp_words.proofs.TestLaws.{table_from_test}
+use Rattle.sp_words.proofs.TestLemmas.{table_from_test}
 
 pub keeps : (n : ℕ) (text codes : List ℕ) (entries : List Entry) → IsCut n text codes entries
     → true ≡ are_keywords (words_of (rows_of text entries)) → IsKept n text entries

@@ -7,9 +7,9 @@ use Rattle.std.proofs.lemmas.List.{drop_more, length-take-le}
 use Rattle.std.proofs.lemmas.List.Sums.{fold_more}
 use Rattle.std.specs.List.{list_all}
 use Rattle.std.specs.Char.{is_ascii_digit}
-use Rattle.sp_decimal.proofs.DigitRuns.{both}
+use Rattle.sp_decimal.proofs.DigitRunLemmas.{both}
 use Rattle.sp_decimal.specs.Grammar.{value_of}
-use Rattle.sp_decimal.specs.Significands.{IsBackTrimmed}
+use Rattle.sp_decimal.specs.InnerSignificands.{IsBackTrimmed}
 
 pub digit-range : (b : ℕ) → is_ascii_digit b ≡ true → (48 ≤ b) × (b ≤ 57)
 digit-range b h = grind (arith, nat_tests)

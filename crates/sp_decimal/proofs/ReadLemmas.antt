@@ -13,12 +13,12 @@ use Rattle.sp_decimal.specs.declared.places.Place.{Place}
 use Rattle.sp_decimal.specs.declared.places.Place.TheVariants.{Whole, Decimals}
 use Rattle.sp_decimal.specs.Grammar.{has_minus, unsigned, is_infinity, is_plain_numeral, raised_by, lowered_by, value_of, top, bottom}
 use Rattle.sp_decimal.specs.Numerals.{signed, fraction_numeral, numeral}
-use Rattle.sp_decimal.specs.Significands.{number_of, IsSignificand, IsStripped}
-use Rattle.sp_decimal.specs.Parts.{IsCut}
-use Rattle.sp_decimal.specs.Places.{IsPlace, answer_at}
-use Rattle.sp_decimal.proofs.FractionAnswers.{Tells, abs-signed, numeral-from_told}
-use Rattle.sp_decimal.proofs.StripLaws.{number-lt}
-use Rattle.sp_decimal.proofs.PlaceLaws.{uncapped, answer-at_place}
+use Rattle.sp_decimal.specs.InnerSignificands.{number_of, IsSignificand, IsStripped}
+use Rattle.sp_decimal.specs.InnerParts.{IsCut}
+use Rattle.sp_decimal.specs.InnerPlaces.{IsPlace, answer_at}
+use Rattle.sp_decimal.proofs.FractionAnswerLemmas.{Tells, abs-signed, numeral-from_told}
+use Rattle.sp_decimal.proofs.StripLemmas.{number-lt}
+use Rattle.sp_decimal.proofs.PlaceLemmas.{uncapped, answer-at_place}
 
 -- an exponent raises or lowers
 moved : (negative : Bool) (n : ℕ) → (cond negative 0 n ≡ 0) ⊎ (cond negative n 0 ≡ 0)

@@ -3,7 +3,7 @@ use Rattle.std.specs.Prelude.{ℕ, List}
 use Rattle.std.specs.List.{All}
 use Rattle.sp_words.specs.Spellings.{IsTable}
 use Rattle.sp_words.specs.Rows.{words_of}
-use Rattle.sp_words.specs.Entries.{IsWithin, rows_of}
+use Rattle.sp_words.specs.InnerEntries.{IsWithin, rows_of}
 use Rattle.sp_words.specs.declared.entries.Entry.{Entry}
 
 pub record IsKept (n : ℕ) (text : List ℕ) (entries : List Entry) : Type 0 where

@@ -6,7 +6,7 @@ use Rattle.std.proofs.lemmas.List.Elements.{All-nil, All-cons, All-tail}
 use Rattle.std.proofs.lemmas.List.{length-map, get_or-map}
 use Rattle.sp_words.specs.Spellings.{same_word}
 use Rattle.sp_words.specs.Rows.{Row, words_of, code_of, IsCodeFor}
-use Rattle.sp_words.proofs.WordLaws.{same_word_parts}
+use Rattle.sp_words.proofs.WordLemmas.{same_word_parts}
 
 abbrev pub Other : List ℕ → Row → Type 0
 Other word row = same_word word row.0 ≡ false

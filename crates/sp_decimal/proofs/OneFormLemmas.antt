@@ -10,10 +10,10 @@ use Rattle.std.proofs.lemmas.Nat.{same_from_place}
 use Rattle.std.proofs.Math.Nat.{add-mul, mul_assoc, mul_comm, mul-lt-mul_of_pos_right}
 use Rattle.sp_decimal.specs.Grammar.{value_of, some_digits, has_minus, unsigned, is_point, whole_part, fraction_part, top, bottom}
 use Rattle.sp_decimal.specs.Printing.{with_point, whole_of, behind_of, IsNormalForm, HaveOneValue}
-use Rattle.sp_decimal.proofs.OneValue.{value_of-lt, same_whole, same_behind}
-use Rattle.sp_decimal.proofs.PlainText.{AreDigits, plain, top-plain, bottom-plain}
-use Rattle.sp_decimal.proofs.PointPlaces.{and_left, and_right, before_first-none, after_first-none}
-use Rattle.sp_decimal.proofs.Powers.{power-positive}
+use Rattle.sp_decimal.proofs.OneValueLemmas.{value_of-lt, same_whole, same_behind}
+use Rattle.sp_decimal.proofs.PlainTextLemmas.{AreDigits, plain, top-plain, bottom-plain}
+use Rattle.sp_decimal.proofs.PointPlaceLemmas.{and_left, and_right, before_first-none, after_first-none}
+use Rattle.sp_decimal.proofs.PowerLemmas.{power-positive}
 
 -- a text is its sign and the rest
 not_plus : (b : ℕ) → b ≢ 43 → (b == 43) ≡ false

@@ -32,7 +32,7 @@ up : (n t : ℕ) → 0 < t → IsUp n t (div_ceil n t)
 up n t h = record { not_below = (div_ceil_times n t h).0; least = λ m e. up_least n t m h e }
 
 -- a negative number of units
-minus_times : (c t : ℕ) → neg_ℤ (pos c) *ℤ pos t ≡ neg_ℤ (pos (c * t))
+pub minus_times : (c t : ℕ) → neg_ℤ (pos c) *ℤ pos t ≡ neg_ℤ (pos (c * t))
 minus_times zero t = omega (arith, ints)
 minus_times (suc c) t = refl
 

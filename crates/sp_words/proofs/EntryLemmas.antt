@@ -5,7 +5,7 @@ use Rattle.std.proofs.lemmas.List.{at_drop_more, take_rest}
 use Rattle.std.proofs.lemmas.Bool.{cond-true, cond-false, and_left, and_right, not_from_true}
 use Rattle.sp_words.specs.Spellings.{same_word, is_empty_word, are_keywords}
 use Rattle.sp_words.specs.Rows.{words_of, code_of}
-use Rattle.sp_words.specs.Entries.{spelling_at, rows_of}
+use Rattle.sp_words.specs.InnerEntries.{spelling_at, rows_of}
 use Rattle.sp_words.specs.declared.entries.Entry.{Entry}
 
 pub found_here : (text word : List ℕ) (entries : List Entry) (i : ℕ) (d : Entry) → i < length entries

@@ -11,10 +11,10 @@ use Rattle.sp_decimal.specs.declared.numerals.NumeralFault.TheVariants.{NotNumer
 use Rattle.sp_decimal.specs.Grammar.{has_minus, unsigned, is_point, is_exponent_letter, is_infinity, is_plain_numeral, mantissa, exponent, fraction_part, top, bottom, lowered_by}
 use Rattle.sp_decimal.specs.Numerals.{numeral, fraction_numeral}
 use Rattle.sp_decimal.specs.Readings.{IsWritten, IsEndless, IsNumeral, IsOrdinary, IsReading}
-use Rattle.sp_decimal.specs.Parts.{BeginsWith}
-use Rattle.sp_decimal.proofs.FractionAnswers.{Tells, told, numeral-from_told}
-use Rattle.sp_decimal.proofs.ReadLaws.{numeral-by}
-use Rattle.sp_decimal.proofs.CutLaws.{cut-spoilt}
+use Rattle.sp_decimal.specs.InnerParts.{BeginsWith}
+use Rattle.sp_decimal.proofs.FractionAnswerLemmas.{Tells, told, numeral-from_told}
+use Rattle.sp_decimal.proofs.ReadLemmas.{numeral-by}
+use Rattle.sp_decimal.proofs.CutLemmas.{cut-spoilt}
 
 lower-high : (b : ℕ) → to_ascii_lowercase b ≡ 105 → 58 ≤ b
 lower-high b h = grind (arith, nat_tests)

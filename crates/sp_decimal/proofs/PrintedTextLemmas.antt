@@ -8,10 +8,10 @@ use Rattle.std.proofs.lemmas.Bool.{cases_lt}
 use Rattle.std.proofs.lemmas.Nat.{div-add-mod', mod_below, div_below}
 use Rattle.std.proofs.Math.Nat.{div-one}
 use Rattle.sp_decimal.specs.Printing.{filled, without_zeros, with_point, printed_size, printed}
-use Rattle.sp_decimal.proofs.LastDigits.{last_digits, length-last_digits, decimal-cut, last_digits-filled, last_digits-mod, length-decimal_some}
-use Rattle.sp_decimal.proofs.Powers.{power-positive}
-use Rattle.sp_decimal.proofs.RoundingLaws.{div-le}
-use Rattle.sp_decimal.proofs.TrailingZeros.{behind_whole, behind_whole-plain, behind_whole-zeros}
+use Rattle.sp_decimal.proofs.LastDigitLemmas.{last_digits, length-last_digits, decimal-cut, last_digits-filled, last_digits-mod, length-decimal_some}
+use Rattle.sp_decimal.proofs.PowerLemmas.{power-positive}
+use Rattle.sp_decimal.proofs.RoundingLemmas.{div-le}
+use Rattle.sp_decimal.proofs.TrailingZeroLemmas.{behind_whole, behind_whole-plain, behind_whole-zeros}
 
 length-cut : (s n : ℕ) → n < 10 ^ 64 → 10 ^ s ≤ n → length (decimal n) ≡ length (decimal (n / 10 ^ s)) + length (last_digits s n)
 length-cut s n small more = ap length (decimal-cut s n small more) ∙ length-append (decimal (n / 10 ^ s)) (last_digits s n)

@@ -6,7 +6,7 @@ use Rattle.std.proofs.lemmas.Bool.Decides.{nat_tests}
 use Rattle.std.specs.List.{list_all, position_or_len}
 use Rattle.std.specs.Char.{is_ascii_digit}
 use Rattle.sp_decimal.specs.Grammar.{some_digits}
-use Rattle.sp_decimal.specs.Parts.{starts_with_digit, IsDigitRun}
+use Rattle.sp_decimal.specs.InnerParts.{starts_with_digit, IsDigitRun}
 
 -- both sides of `&&` hold where it does
 pub both : (a b : Bool) → (a && b) ≡ true → (a ≡ true) × (b ≡ true)

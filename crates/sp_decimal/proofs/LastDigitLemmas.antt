@@ -10,8 +10,8 @@ use Rattle.std.proofs.lemmas.Bool.{cases_lt}
 use Rattle.std.proofs.Math.Nat.{div-div-eq-div-mul, div-one, pow-succ', mul_left_comm}
 use Rattle.sp_decimal.specs.Grammar.{value_of}
 use Rattle.sp_decimal.specs.Printing.{filled}
-use Rattle.sp_decimal.proofs.NumberText.{value-push, digits-push}
-use Rattle.sp_decimal.proofs.Powers.{power-positive}
+use Rattle.sp_decimal.proofs.NumberTextLemmas.{value-push, digits-push}
+use Rattle.sp_decimal.proofs.PowerLemmas.{power-positive}
 
 -- the last s digits of n, with zeros in front if it has fewer
 abbrev pub last_digits : ℕ → ℕ → List ℕ

@@ -5,8 +5,8 @@ use Rattle.std.proofs.lemmas.Nat.{pow-add}
 use Rattle.std.specs.List.{list_all}
 use Rattle.std.specs.Char.{is_ascii_digit}
 use Rattle.sp_decimal.specs.Grammar.{value_of}
-use Rattle.sp_decimal.specs.Significands.{number_of, IsSignificand, IsFrontTrimmed, IsBackTrimmed, IsStripped}
-use Rattle.sp_decimal.proofs.DigitValues.{value-lt}
+use Rattle.sp_decimal.specs.InnerSignificands.{number_of, IsSignificand, IsFrontTrimmed, IsBackTrimmed, IsStripped}
+use Rattle.sp_decimal.proofs.DigitValueLemmas.{value-lt}
 
 pub power-parts : (n i j : ℕ) → n ≡ i + j → 10 ^ n ≡ 10 ^ i * 10 ^ j
 power-parts n i j e = ap (λ k. 10 ^ k) e ∙ pow-add 10 i j

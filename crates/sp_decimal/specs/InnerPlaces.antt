@@ -1,5 +1,6 @@
 -- Where the digits of a number stand, said by counts alone, and how it is then answered.
 use Rattle.std.specs.Prelude.{◌≡◌, ℕ, ◌+◌, ◌*◌, ◌^◌, ◌<◌, ◌≤◌, ◌⊎◌, Bool, Result, Ok, Err}
+use Rattle.sp_decimal.specs.DecimalFraction.{most_digits, most_places}
 use Rattle.sp_decimal.specs.declared.numerals.Numeral.{Numeral}
 use Rattle.sp_decimal.specs.declared.numerals.Numeral.TheVariants.{Exact, Huge}
 use Rattle.sp_decimal.specs.declared.numerals.NumeralFault.{NumeralFault}
@@ -10,10 +11,10 @@ use Rattle.sp_decimal.specs.Numerals.{signed}
 
 -- the place of a number of `size` digits, of which the first and the last aren't 0, times 10^(raised - lowered)
 abbrev pub IsPlace : ℕ → ℕ → ℕ → Place → Type 0
-IsPlace size raised lowered TooLarge = 30 + lowered < size + raised
-IsPlace size raised lowered (Whole zeros) = (size + raised ≤ 30 + lowered) × (raised ≡ lowered + zeros)
-IsPlace size raised lowered (Decimals places) = (size + raised ≤ 30 + lowered) × (lowered ≡ raised + places) × (0 < places) × (places ≤ 30) × (size ≤ 30)
-IsPlace size raised lowered TooFine = (size + raised ≤ 30 + lowered) × (raised < lowered) × ((30 < size) ⊎ (raised + 30 < lowered))
+IsPlace size raised lowered TooLarge = most_digits + lowered < size + raised
+IsPlace size raised lowered (Whole zeros) = (size + raised ≤ most_digits + lowered) × (raised ≡ lowered + zeros)
+IsPlace size raised lowered (Decimals places) = (size + raised ≤ most_digits + lowered) × (lowered ≡ raised + places) × (0 < places) × (places ≤ most_places) × (size ≤ most_digits)
+IsPlace size raised lowered TooFine = (size + raised ≤ most_digits + lowered) × (raised < lowered) × ((most_digits < size) ⊎ (raised + most_places < lowered))
 
 -- the answer at a place for the number of the digits
 abbrev pub answer_at : Bool → ℕ → Place → Result Numeral NumeralFault

@@ -7,9 +7,9 @@ use Rattle.std.specs.Fmt.{sign_text}
 use Rattle.std.proofs.lemmas.Int.{ints}
 use Rattle.sp_decimal.specs.Grammar.{is_point, unsigned, whole_part, fraction_part}
 use Rattle.sp_decimal.specs.Printing.{printed, printed_size, IsNormalForm}
-use Rattle.sp_decimal.proofs.PlainText.{AreDigits, plain, whole_part-plain, fraction_part-plain, some_digits-whole, unsigned-plain, no_point}
-use Rattle.sp_decimal.proofs.PointPlaces.{and_left, digit-least}
-use Rattle.sp_decimal.proofs.PrintedValue.{IsParted, parted}
+use Rattle.sp_decimal.proofs.PlainTextLemmas.{AreDigits, plain, whole_part-plain, fraction_part-plain, some_digits-whole, unsigned-plain, no_point}
+use Rattle.sp_decimal.proofs.PointPlaceLemmas.{and_left, digit-least}
+use Rattle.sp_decimal.proofs.PrintedValueLemmas.{IsParted, parted}
 
 -- the record's fields, for the text without its sign
 normal_from : (text u w f : List ℕ) → AreDigits w f → unsigned text ≡ u → whole_part u ≡ w → fraction_part u ≡ f → (get_or w 0 0 ≡ 48 → length w ≡ 1) → get_or f (length f - 1) 0 ≢ 48

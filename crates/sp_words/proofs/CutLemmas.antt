@@ -8,7 +8,7 @@ use Rattle.std.proofs.lemmas.List.Sums.{prefix_len-le-length, fails_before_first
 use Rattle.std.proofs.lemmas.Bool.{cases_lt, cond-true, cond-false, le-leb, lt-leb}
 use Rattle.sp_words.specs.Spellings.{is_blank, spellings}
 use Rattle.sp_words.specs.Rows.{Row}
-use Rattle.sp_words.specs.Entries.{IsWithin, IsCut, row_at, rows_of}
+use Rattle.sp_words.specs.InnerEntries.{IsWithin, IsCut, row_at, rows_of}
 use Rattle.sp_words.specs.declared.entries.Entry.{Entry}
 
 -- the pieces of the text from a place on, which is one past its end when none is left

@@ -7,10 +7,10 @@ use Rattle.sp_decimal.specs.declared.places.Place.{Place}
 use Rattle.sp_decimal.specs.declared.places.Place.TheVariants.{TooLarge, Whole, Decimals, TooFine}
 use Rattle.sp_decimal.specs.Numerals.{signed, fraction_numeral, IsFraction}
 use Rattle.sp_decimal.specs.Readings.{IsWritten, IsLarge}
-use Rattle.sp_decimal.specs.Significands.{IsSignificand}
-use Rattle.sp_decimal.specs.Places.{IsPlace, answer_at}
-use Rattle.sp_decimal.proofs.FractionAnswers.{Tells, abs-signed, numeral-from_told}
-use Rattle.sp_decimal.proofs.StripLaws.{power-parts}
+use Rattle.sp_decimal.specs.InnerSignificands.{IsSignificand}
+use Rattle.sp_decimal.specs.InnerPlaces.{IsPlace, answer_at}
+use Rattle.sp_decimal.proofs.FractionAnswerLemmas.{Tells, abs-signed, numeral-from_told}
+use Rattle.sp_decimal.proofs.StripLemmas.{power-parts}
 
 -- what the caps leave open changes no place
 pub uncapped : (size more raised fraction lowered cap : ℕ) (p : Place) → size + more + 31 ≤ cap → fraction + 31 ≤ cap → (raised ≡ 0) ⊎ (lowered ≡ 0)

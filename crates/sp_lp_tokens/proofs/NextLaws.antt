@@ -2,7 +2,7 @@
 use Rattle.std.proofs.Common.{◌≡◌, ◌≢◌, ℕ, ◌+◌, ◌≤◌, false, List, length, take, drop, ap, sym, subst, arith, length-drop}
 use Rattle.std.specs.Prelude.{count_by}
 use Rattle.std.proofs.Math.Nat.{add-sub_cancel_left}
-use Rattle.sp_lp_tokens.specs.declared.kinds.TokenKindFault.{TokenKindFault}
+use Rattle.sp_lp_tokens.specs.declared.token_types.TokenKindFault.{TokenKindFault}
 use Rattle.sp_lp_tokens.specs.declared.pieces.Piece.{Piece}
 use Rattle.sp_lp_tokens.specs.Gaps.{is_feed, gap_length, line_at}
 use Rattle.sp_lp_tokens.specs.Longest.{IsLongest}

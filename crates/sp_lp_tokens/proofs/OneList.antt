@@ -3,12 +3,12 @@ use Rattle.std.proofs.Common.{◌≡◌, ℕ, ◌+◌, ◌-◌, ◌<◌, Bool, t
 use Rattle.std.specs.Prelude.{Ok, Err, Option, None, Some}
 use Rattle.std.proofs.lemmas.Bool.{both_ways}
 use Rattle.sp_decimal.specs.declared.numerals.NumeralFault.TheVariants as numeral_faults
-use Rattle.sp_lp_tokens.specs.declared.kinds.Token.{Token}
-use Rattle.sp_lp_tokens.specs.declared.kinds.TokenKind.{TokenKind}
-use Rattle.sp_lp_tokens.specs.declared.kinds.TokenKind.TheVariants.{Name, Number, Symbol}
-use Rattle.sp_lp_tokens.specs.declared.kinds.TokenKindFault.{TokenKindFault}
-use Rattle.sp_lp_tokens.specs.declared.kinds.TokenKindFault.TheVariants.{BadByte, Wide, LongName}
-use Rattle.sp_lp_tokens.specs.declared.kinds.TokenRefusal.TheVariants as refusals
+use Rattle.sp_lp_tokens.specs.declared.token_types.Token.{Token}
+use Rattle.sp_lp_tokens.specs.declared.token_types.TokenKind.{TokenKind}
+use Rattle.sp_lp_tokens.specs.declared.token_types.TokenKind.TheVariants.{Name, Number, Symbol}
+use Rattle.sp_lp_tokens.specs.declared.token_types.TokenKindFault.{TokenKindFault}
+use Rattle.sp_lp_tokens.specs.declared.token_types.TokenKindFault.TheVariants.{BadByte, Wide, LongName}
+use Rattle.sp_lp_tokens.specs.declared.token_types.TokenRefusal.TheVariants as refusals
 use Rattle.sp_lp_tokens.specs.declared.symbols.Symbol as symbols
 use Rattle.sp_lp_tokens.specs.declared.symbols.Symbol.TheVariants.{Plus}
 use Rattle.sp_lp_tokens.specs.Gaps.{gap_length, line_at}

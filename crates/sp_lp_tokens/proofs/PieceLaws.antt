@@ -3,8 +3,8 @@ use Rattle.std.proofs.Common.{◌≡◌, ℕ, zero, ◌<◌, ◌≤◌, Bool, Li
 use Rattle.sp_decimal.specs.declared.numerals.Numeral.{Numeral}
 use Rattle.sp_decimal.specs.declared.numerals.NumeralFault.TheVariants as numeral_faults
 use Rattle.sp_decimal.specs.Numerals.{numeral}
-use Rattle.sp_lp_tokens.specs.declared.kinds.TokenKind.TheVariants.{Name, Number, Symbol}
-use Rattle.sp_lp_tokens.specs.declared.kinds.TokenKindFault.TheVariants.{BadByte, Wide, LongName}
+use Rattle.sp_lp_tokens.specs.declared.token_types.TokenKind.TheVariants.{Name, Number, Symbol}
+use Rattle.sp_lp_tokens.specs.declared.token_types.TokenKindFault.TheVariants.{BadByte, Wide, LongName}
 use Rattle.sp_lp_tokens.specs.declared.symbols.Symbol as symbols
 use Rattle.sp_lp_tokens.specs.Longest.{IsLongest}
 use Rattle.sp_lp_tokens.specs.Texts.{is_name, is_number, is_symbol, spelling}

@@ -11,10 +11,10 @@ use Rattle.sp_decimal.specs.declared.numerals.NumeralFault.{NumeralFault}
 use Rattle.sp_decimal.specs.declared.numerals.NumeralFault.TheVariants as numeral_faults
 use Rattle.sp_decimal.specs.Numerals.{numeral}
 use Rattle.sp_decimal.specs.Readings.{IsReading}
-use Rattle.sp_lp_tokens.specs.declared.kinds.Token.{Token}
-use Rattle.sp_lp_tokens.specs.declared.kinds.TokenKind.TheVariants.{Name, Number, Symbol}
-use Rattle.sp_lp_tokens.specs.declared.kinds.TokenKindFault.{TokenKindFault}
-use Rattle.sp_lp_tokens.specs.declared.kinds.TokenKindFault.TheVariants.{BadByte, Wide, LongName}
+use Rattle.sp_lp_tokens.specs.declared.token_types.Token.{Token}
+use Rattle.sp_lp_tokens.specs.declared.token_types.TokenKind.TheVariants.{Name, Number, Symbol}
+use Rattle.sp_lp_tokens.specs.declared.token_types.TokenKindFault.{TokenKindFault}
+use Rattle.sp_lp_tokens.specs.declared.token_types.TokenKindFault.TheVariants.{BadByte, Wide, LongName}
 use Rattle.sp_lp_tokens.specs.declared.pieces.Piece.{Piece}
 use Rattle.sp_lp_tokens.specs.declared.symbols.Symbol as symbols
 use Rattle.sp_lp_tokens.specs.Gaps.{is_feed, is_blank, is_backslash, gap_length, line_at}

@@ -5,10 +5,10 @@ use Rattle.std.specs.List.{All}
 use Rattle.std.proofs.lemmas.Bool.{both_ways}
 use Rattle.std.proofs.lemmas.List.Elements.{All-nil, All-cons}
 use Rattle.std.proofs.lemmas.List.{length-take-le}
-use Rattle.sp_lp_tokens.specs.declared.kinds.Token.{Token}
-use Rattle.sp_lp_tokens.specs.declared.kinds.TokenKind.{TokenKind}
-use Rattle.sp_lp_tokens.specs.declared.kinds.TokenKindFault.{TokenKindFault}
-use Rattle.sp_lp_tokens.specs.declared.kinds.TokenKind.TheVariants.{Name, Number, Symbol}
+use Rattle.sp_lp_tokens.specs.declared.token_types.Token.{Token}
+use Rattle.sp_lp_tokens.specs.declared.token_types.TokenKind.{TokenKind}
+use Rattle.sp_lp_tokens.specs.declared.token_types.TokenKindFault.{TokenKindFault}
+use Rattle.sp_lp_tokens.specs.declared.token_types.TokenKind.TheVariants.{Name, Number, Symbol}
 use Rattle.sp_lp_tokens.specs.declared.symbols.Symbol.TheVariants as symbols
 use Rattle.sp_lp_tokens.specs.declared.numeral_places.Place.TheVariants.{Start}
 use Rattle.sp_lp_tokens.specs.Gaps.{is_feed, gap_length, line_at}
@@ -104,3 +104,15 @@ pub ordered_are_spans : (source : List ℕ) (from : ℕ) (ts : List Token) → A
 ordered_are_spans source from [] h = All-nil (IsSpan source)
 ordered_are_spans source from (t ∷ ts) h =
     All-cons (IsSpan source) t ts (record { rising = h.1; within = ordered_within t.end ts (length source) h.2 }) (ordered_are_spans source t.end ts h.2)
+
+-- tokens with a byte each are at most as many as the bytes that they lie in
+ordered_are_few : (from : ℕ) (ts : List Token) (to : ℕ) → AreInOrder from ts to → from + length ts ≤ to
+ordered_are_few from [] to h = omega (arith, h)
+ordered_are_few from (t ∷ ts) to h =
+    let rest : t.end + length ts ≤ to = ordered_are_few t.end ts to h.2 in
+    omega (arith, h.0, h.1, rest)
+
+pub tokens_are_few : (ts : List Token) (to : ℕ) → AreInOrder 0 ts to → length ts ≤ to
+tokens_are_few ts to h =
+    let few : 0 + length ts ≤ to = ordered_are_few 0 ts to h in
+    omega (arith, few)

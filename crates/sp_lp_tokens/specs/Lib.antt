@@ -3,6 +3,7 @@ pub mod Longest
 pub mod Nexts
 pub mod NumeralPlaces
 pub mod Pieces
+pub mod SeenTokens
 pub mod SymbolHeads
 pub mod Texts
 pub mod Tokens

@@ -2,9 +2,9 @@
 use Rattle.std.specs.Prelude.{◌≡◌, ℕ, ◌+◌, false, List, length, drop}
 use Rattle.sp_lp_tokens.specs.declared.reading.Next.{Next}
 use Rattle.sp_lp_tokens.specs.declared.reading.Next.TheVariants as nexts
-use Rattle.sp_lp_tokens.specs.declared.kinds.Token.{Token}
-use Rattle.sp_lp_tokens.specs.declared.kinds.TokenRefusal.{TokenRefusal}
-use Rattle.sp_lp_tokens.specs.declared.kinds.TokenRefusal.TheVariants as refusals
+use Rattle.sp_lp_tokens.specs.declared.token_types.Token.{Token}
+use Rattle.sp_lp_tokens.specs.declared.token_types.TokenRefusal.{TokenRefusal}
+use Rattle.sp_lp_tokens.specs.declared.token_types.TokenRefusal.TheVariants as refusals
 use Rattle.sp_lp_tokens.specs.Gaps.{gap_length}
 use Rattle.sp_lp_tokens.specs.Tokens.{IsNextToken, IsNextFault, IsFirstFault, Ending, Complete, Faulty}
 

@@ -1,6 +1,6 @@
 -- The longest token at the head of some bytes.
 use Rattle.std.specs.Prelude.{ℕ, ◌<◌, List, take, Result, Ok, Err}
-use Rattle.sp_lp_tokens.specs.declared.kinds.TokenKindFault.{TokenKindFault}
+use Rattle.sp_lp_tokens.specs.declared.token_types.TokenKindFault.{TokenKindFault}
 use Rattle.sp_lp_tokens.specs.declared.pieces.Piece.{Piece}
 use Rattle.sp_lp_tokens.specs.Longest.{IsLongest}
 use Rattle.sp_lp_tokens.specs.Texts.{is_token_text}

@@ -4,11 +4,11 @@ use Rattle.std.specs.Option.{option_map_or}
 use Rattle.sp_decimal.specs.declared.numerals.NumeralFault.TheVariants as numeral_faults
 use Rattle.sp_decimal.specs.Numerals.{numeral}
 use Rattle.sp_words.specs.Spellings.{same_word}
-use Rattle.sp_lp_tokens.specs.declared.kinds.Token.{Token}
-use Rattle.sp_lp_tokens.specs.declared.kinds.TokenKind.{TokenKind}
-use Rattle.sp_lp_tokens.specs.declared.kinds.TokenKind.TheVariants.{Name, Number, Symbol}
-use Rattle.sp_lp_tokens.specs.declared.kinds.TokenKindFault.{TokenKindFault}
-use Rattle.sp_lp_tokens.specs.declared.kinds.TokenKindFault.TheVariants.{BadByte, Wide, LongName}
+use Rattle.sp_lp_tokens.specs.declared.token_types.Token.{Token}
+use Rattle.sp_lp_tokens.specs.declared.token_types.TokenKind.{TokenKind}
+use Rattle.sp_lp_tokens.specs.declared.token_types.TokenKind.TheVariants.{Name, Number, Symbol}
+use Rattle.sp_lp_tokens.specs.declared.token_types.TokenKindFault.{TokenKindFault}
+use Rattle.sp_lp_tokens.specs.declared.token_types.TokenKindFault.TheVariants.{BadByte, Wide, LongName}
 use Rattle.sp_lp_tokens.specs.Longest.{IsLongest}
 use Rattle.sp_lp_tokens.specs.Gaps.{is_blank, gap_length, line_at}
 use Rattle.sp_lp_tokens.specs.Texts.{is_name, is_number, spelling, is_token_text}

@@ -2,7 +2,6 @@
 #![tactic(auto)]
 
 mod gaps;
-mod kinds;
 #[cfg(test)]
 mod length_tests;
 mod lengths;
@@ -13,8 +12,9 @@ mod symbols;
 mod token_laws;
 #[cfg(test)]
 mod token_tests;
+mod token_types;
 
-pub use kinds::{Token, TokenKind, TokenKindFault, TokenRefusal};
 pub use reading::tokens;
 pub use symbols::Symbol;
 pub use token_laws::{files_have_tokens, tokens_are_unique};
+pub use token_types::{Token, TokenKind, TokenKindFault, TokenRefusal};

@@ -3,8 +3,8 @@ ghost use Rattle.sp_lp_tokens.specs.Longest.{IsLongest};
 ghost use Rattle.sp_lp_tokens.specs.Texts.{is_name, is_number};
 ghost use Rattle.sp_lp_tokens.specs.Pieces.{IsPieceOrFault};
 
-use crate::kinds::{TokenKind, TokenKindFault};
 use crate::lengths::{name_length, number_length, symbol_at};
+use crate::token_types::{TokenKind, TokenKindFault};
 use sp_decimal::{Numeral, NumeralFault, numerals_have_one_reading};
 
 /// The longest name that a token may have, in bytes.

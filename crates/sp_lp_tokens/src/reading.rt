@@ -1,12 +1,12 @@
 ghost use Rattle.std.specs.Prelude.{◌≡◌, ℕ, ◌≤◌, ◌^◌, List, length, drop, IfOk, IfErr, MatchResult, All};
 ghost use Rattle.sp_lp_tokens.specs.Gaps.{line_at};
 ghost use Rattle.sp_lp_tokens.specs.Tokens.{AreTokens, AreInOrder, IsSpan, Ending, TokensFrom, is_end_word, colon_follows, ends_list};
-ghost use Rattle.sp_lp_tokens.specs.declared.kinds.Token.{Token};
+ghost use Rattle.sp_lp_tokens.specs.declared.token_types.Token.{Token};
 ghost use Rattle.sp_lp_tokens.specs.Nexts.{IsNext, IsRefusal, IsListOf, IsRefusalOf};
 
 use crate::gaps::{gap_before, is_blank};
-use crate::kinds::{Token, TokenKind, TokenKindFault, TokenRefusal};
 use crate::pieces::piece_at;
+use crate::token_types::{Token, TokenKind, TokenKindFault, TokenRefusal};
 use sp_decimal::Numeral;
 use std::alloc::Global;
 
@@ -94,6 +94,7 @@ pub fn tokens(alloc: Global, bytes: &[u8]) -> Result<Vec<Token>, TokenRefusal>
     ensures fault { IfErr result (IsRefusal bytes.now) }
     ensures spans { IfOk result (λ tokens. AreInOrder 0 tokens.items (length bytes.now)) }
     ensures texts { IfOk result (λ tokens. All (IsSpan bytes.now) tokens.items) }
+    ensures count { IfOk result (λ tokens. length tokens.items ≤ length bytes.now) }
 
     // Whatever tokens the file has, and however their list ends, this is the answer, unless memory ran out.
     ensures only { (tokens : List Token) (ending : Ending) → TokensFrom bytes.now 0 0 tokens ending →

@@ -1,5 +1,5 @@
 ghost use Rattle.std.specs.Prelude.{◌≡◌, ℕ, List};
-ghost use Rattle.sp_lp_tokens.specs.declared.kinds.Token.{Token};
+ghost use Rattle.sp_lp_tokens.specs.declared.token_types.Token.{Token};
 ghost use Rattle.sp_lp_tokens.specs.Tokens.{Ending, TokensFrom};
 
 use sp_decimal::numerals_have_one_reading;

@@ -1,8 +1,8 @@
 ghost use Rattle.std.specs.Prelude.{All};
 ghost use Rattle.sp_lp_tokens.specs.Tokens.{IsSpan};
 
-use crate::kinds::{Token, TokenKind, TokenKindFault, TokenRefusal};
 use crate::reading::tokens;
+use crate::token_types::{Token, TokenKind, TokenKindFault, TokenRefusal};
 use sp_decimal::Numeral;
 use std::alloc::{AllocError, Global};
 use std::test::Fail;

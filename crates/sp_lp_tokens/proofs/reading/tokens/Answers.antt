@@ -1,8 +1,8 @@
-use Rattle.std.proofs.Common.{[], ◌∷◌, ◌++◌, sym, arith, append_assoc}
+use Rattle.std.proofs.Common.{[], ◌∷◌, ◌++◌, length, sym, arith, append_assoc}
 use Rattle.std.proofs.lemmas.List.{append-nil}
 use Rattle.sp_lp_tokens.specs.Tokens.{Complete, Faulty}
 use Rattle.sp_lp_tokens.proofs.LineLaws.{line_at-first}
-use Rattle.sp_lp_tokens.proofs.TokenLaws.{next_lies_behind, line_at-end, complete_at, fault_at, token_first, token_last, tokens_in_order, ordered_are_spans}
+use Rattle.sp_lp_tokens.proofs.TokenLaws.{next_lies_behind, line_at-end, complete_at, fault_at, token_first, token_last, tokens_in_order, ordered_are_spans, tokens_are_few}
 use Rattle.sp_lp_tokens.proofs.OneList.{only_list, only_fault}
 use Rattle.sp_lp_tokens.proofs.reading.tokens.Goals as goal
 
@@ -67,3 +67,9 @@ returns-in-Nothing-clause-texts c = ordered_are_spans c.args.bytes.now 0 c.loop-
 
 pub returns-then-ends_list-clause-texts : goal.returns-then-ends_list-clause-texts
 returns-then-ends_list-clause-texts c = ordered_are_spans c.args.bytes.now 0 c.push.new.self.items (returns-then-ends_list-clause-spans c)
+
+pub returns-in-Nothing-clause-count : goal.returns-in-Nothing-clause-count
+returns-in-Nothing-clause-count c = tokens_are_few c.loop-tokens.tokens.items (length c.args.bytes.now) (returns-in-Nothing-clause-spans c)
+
+pub returns-then-ends_list-clause-count : goal.returns-then-ends_list-clause-count
+returns-then-ends_list-clause-count c = tokens_are_few c.push.new.self.items (length c.args.bytes.now) (returns-then-ends_list-clause-spans c)

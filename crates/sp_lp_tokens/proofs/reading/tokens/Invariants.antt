@@ -1,5 +1,5 @@
 use Rattle.std.proofs.Common.{◌≡◌, ◌-◌, ◌≤◌, List, ◌++◌, length}
-use Rattle.sp_lp_tokens.specs.declared.kinds.Token.{Token}
+use Rattle.sp_lp_tokens.specs.declared.token_types.Token.{Token}
 use Rattle.sp_lp_tokens.specs.Gaps.{line_at}
 use Rattle.sp_lp_tokens.specs.Tokens.{Ending, TokensFrom}
 use Rattle.sp_lp_tokens.proofs.reading.tokens.Given as goal

@@ -2,6 +2,7 @@
 ghost use Rattle.std.specs.Prelude.{◌≡◌, ◌≢◌, ◌<◌, ◌≤◌, None, false, length};
 ghost use Rattle.sp_base.specs.Counts.{Rose};
 ghost use Rattle.sp_base.specs.Sink.{Takes};
+ghost use Rattle.sp_base.specs.Told.{Grows};
 ghost use Rattle.solpool.specs.Moves.{Hands};
 
 use sp_base::{Put, Sink};
@@ -27,6 +28,8 @@ impl<W: Write + Drop> HostSink<W> {
 impl<W: Write + Drop> Sink for HostSink<W> {
     ghost held = { λ _. None };
 
+    ghost sent = { λ _. None };
+
     ghost faults = { λ s. s.faults };
 
     ghost takes_memory = { false };
@@ -35,6 +38,7 @@ impl<W: Write + Drop> Sink for HostSink<W> {
     fn write(&mut self, piece: &[u8]) -> Put
         requires { 0 < length piece.now }
         ensures bytes { Takes result None None piece.now }
+        ensures grown { Grows None None }
         ensures later { self.old.faults ≤ self.new.faults }
         ensures failed { result ≡ Put.Failed → Rose self.old.faults self.new.faults }
         ensures no_memory { result ≢ Put.NoMemory }

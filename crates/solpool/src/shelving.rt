@@ -18,6 +18,7 @@ pub struct HostShelf<'a, R: Files> {
     faults: u64,
     absences: u64,
     overruns: u64,
+    answers: u64,
 }
 
 impl<'a, R: Files> HostShelf<'a, R> {
@@ -26,6 +27,7 @@ impl<'a, R: Files> HostShelf<'a, R> {
         ensures faults { result.faults ≡ 0 }
         ensures absences { result.absences ≡ 0 }
         ensures overruns { result.overruns ≡ 0 }
+        ensures answers { result.answers ≡ 0 }
     {
         HostShelf {
             alloc,
@@ -33,6 +35,7 @@ impl<'a, R: Files> HostShelf<'a, R> {
             faults: 0,
             absences: 0,
             overruns: 0,
+            answers: 0,
         }
     }
 }
@@ -46,34 +49,31 @@ impl<'a, R: Files> Shelf for HostShelf<'a, R> {
 
     ghost overruns = { λ s. s.overruns };
 
+    ghost answers = { λ s. s.answers };
+
     fn read(&mut self, name: &Text, limit: u64) -> Fetched {
-        match fetch(self.alloc, self.files, name.as_slice(), limit) {
-            Fetched::Bytes(bytes) => Fetched::Bytes(bytes),
-            Fetched::Absent => {
-                self.absences = self.absences.saturating_add(1);
-                Fetched::Absent
-            }
-            Fetched::TooLong => {
-                self.overruns = self.overruns.saturating_add(1);
-                Fetched::TooLong
-            }
-            Fetched::Failed => {
-                self.faults = self.faults.saturating_add(1);
-                Fetched::Failed
-            }
-            Fetched::NoMemory => Fetched::NoMemory,
+        let answer = fetch(self.alloc, self.files, name.as_slice(), limit);
+        match &answer {
+            Fetched::Absent => self.absences = self.absences.saturating_add(1),
+            Fetched::TooLong => self.overruns = self.overruns.saturating_add(1),
+            Fetched::Failed => self.faults = self.faults.saturating_add(1),
+            Fetched::Bytes(_) | Fetched::NoMemory => (),
         }
+        self.answers = answer.counted(self.answers);
+        answer
     }
 
     #[tactic(auto, unfolding(sp_base::specs::Shelf::set_file))]
     fn write(&mut self, name: &Text, bytes: &[u8]) -> Stored {
-        match store(self.files, name.as_slice(), bytes) {
+        let answer = match store(self.files, name.as_slice(), bytes) {
             Ok(()) => Stored::Kept,
             Err(_) => {
                 self.faults = self.faults.saturating_add(1);
                 Stored::Failed
             }
-        }
+        };
+        self.answers = answer.counted(self.answers);
+        answer
     }
 }
 

@@ -1,5 +1,7 @@
-pub mod ToldLaws
-pub mod Streams
-mod Entries
+pub mod ToldLemmas
+pub mod StreamLemmas
+pub mod WritingLemmas
+pub mod BufferLemmas
 pub mod LineLemmas
 pub mod FieldLemmas
+mod EntryLemmas

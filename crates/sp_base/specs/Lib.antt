@@ -3,6 +3,8 @@ pub mod Counts
 pub mod Status
 pub mod Source
 pub mod Sink
+pub mod Writing
+pub mod Buffers
 pub mod Shelf
 pub mod Memory
 pub mod Lines

@@ -79,6 +79,8 @@ pub record MemFiles : Type 0 where
   pub absences : ℕ
   -- how many reads met a file that was too long
   pub overruns : ℕ
+  -- how many reads and writes were answered
+  pub answers : ℕ
   pub log : CallLog
 
 -- a shelf in memory whose calls never fail
@@ -86,6 +88,7 @@ pub record SureFiles : Type 0 where
   pub files : Files
   pub absences : ℕ
   pub overruns : ℕ
+  pub answers : ℕ
 
 -- the files of a list of names with their bytes; where a name stands twice, the first counts
 abbrev pub files_of : List (List ℕ × Vec ℕ Global) → Files
@@ -124,11 +127,12 @@ log_code =
 
 abbrev pub sure_files_code : Coded SureFiles
 sure_files_code =
-    code_by (Files × (ℕ × ℕ)) (coded× files_code (coded× coded_ℕ coded_ℕ)) (λ s. (s.files, (s.absences, s.overruns)))
-    (λ p. record { files = p.0; absences = p.1.0; overruns = p.1.1 }) (λ _. refl)
+    code_by (Files × (ℕ × (ℕ × ℕ))) (coded× files_code (coded× coded_ℕ (coded× coded_ℕ coded_ℕ)))
+    (λ s. (s.files, (s.absences, (s.overruns, s.answers))))
+    (λ p. record { files = p.0; absences = p.1.0; overruns = p.1.1.0; answers = p.1.1.1 }) (λ _. refl)
 
 abbrev pub mem_files_code : Coded MemFiles
 mem_files_code =
-    code_by (Files × (ℕ × (ℕ × CallLog))) (coded× files_code (coded× coded_ℕ (coded× coded_ℕ log_code)))
-    (λ s. (s.files, (s.absences, (s.overruns, s.log))))
-    (λ p. record { files = p.0; absences = p.1.0; overruns = p.1.1.0; log = p.1.1.1 }) (λ _. refl)
+    code_by (Files × (ℕ × (ℕ × (ℕ × CallLog)))) (coded× files_code (coded× coded_ℕ (coded× coded_ℕ (coded× coded_ℕ log_code))))
+    (λ s. (s.files, (s.absences, (s.overruns, (s.answers, s.log)))))
+    (λ p. record { files = p.0; absences = p.1.0; overruns = p.1.1.0; answers = p.1.1.1.0; log = p.1.1.1.1 }) (λ _. refl)

@@ -4,6 +4,7 @@ use Rattle.std.specs.Option.{option_map}
 use Rattle.std.specs.FinMap.{FinMap, get, insert}
 use Rattle.std.specs.Ordering.{nat_cmp}
 use Rattle.std.specs.Cmp.Lexicographic.{slice_cmp}
+use Rattle.sp_base.specs.Counts.{raised}
 use Rattle.sp_base.specs.declared.shelves.Fetched.{Fetched}
 use Rattle.sp_base.specs.declared.shelves.Fetched.TheVariants as fetched
 use Rattle.sp_base.specs.declared.shelves.Stored.{Stored}
@@ -46,3 +47,17 @@ abbrev pub Stores : Stored → Option Files → Option Files → List ℕ → Li
 Stores stored.Kept old new name bytes = new ≡ set_file old name bytes
 Stores stored.Failed old new name bytes = (new ≡ old) ⊎ SetsPart old new name bytes
 Stores stored.NoMemory old new name bytes = new ≡ old
+
+-- the count of answers after this answer to a read: want of memory is none
+abbrev pub answers_after_read : Fetched → ℕ → ℕ
+answers_after_read (fetched.Bytes _) answers = raised answers
+answers_after_read fetched.Absent answers = raised answers
+answers_after_read fetched.TooLong answers = raised answers
+answers_after_read fetched.Failed answers = raised answers
+answers_after_read fetched.NoMemory answers = answers
+
+-- the count of answers after this answer to a write: want of memory is none
+abbrev pub answers_after_write : Stored → ℕ → ℕ
+answers_after_write stored.Kept answers = raised answers
+answers_after_write stored.Failed answers = raised answers
+answers_after_write stored.NoMemory answers = answers

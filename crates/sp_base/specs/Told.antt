@@ -17,3 +17,8 @@ pub record AppendsPart (old new : Option (List ℕ)) (bytes : List ℕ) : Type 0
   pub rest : List ℕ
   pub whole : bytes ≡ part ++ rest
   pub told : new ≡ append old part
+
+-- what was there is still there, and at most some bytes have come behind it
+pub record Grows (old new : Option (List ℕ)) : Type 0 where
+  pub more : List ℕ
+  pub told : new ≡ append old more

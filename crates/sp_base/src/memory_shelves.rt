@@ -4,7 +4,7 @@ ghost use Rattle.std.specs.Option.{option_copied};
 ghost use Rattle.std.specs.Str.{bytes_eq};
 ghost use Rattle.sp_base.specs.Counts.{Rose};
 ghost use Rattle.sp_base.specs.Memory.{absences_after, after_call, fails_next, files_after, files_of, overruns_after};
-ghost use Rattle.sp_base.specs.Shelf.{Fetches, Stores, file, with_file};
+ghost use Rattle.sp_base.specs.Shelf.{Fetches, Stores, answers_after_read, answers_after_write, file, with_file};
 
 use crate::call_logs::CallLog;
 use crate::shelves::{Fetched, Shelf, Stored};
@@ -77,6 +77,7 @@ pub struct SureShelf {
     entries: Vec<(Text, Vec<u8>)>,
     absences: u64,
     overruns: u64,
+    answers: u64,
 }
 
 impl Model for SureShelf {
@@ -86,19 +87,20 @@ impl Model for SureShelf {
 
     ghost coded = { sure_files_code };
 
-    ghost view = { λ s. record { files = files_of s.entries.items; absences = s.absences; overruns = s.overruns } };
+    ghost view = { λ s. record { files = files_of s.entries.items; absences = s.absences; overruns = s.overruns; answers = s.answers } };
 }
 
 impl SureShelf {
     /// A shelf of these files. Where a name stands twice, its first file counts.
     pub fn new(alloc: Global, files: Vec<(Text, Vec<u8>)>) -> SureShelf
-        ensures { result ≡ record { files = files_of files.items; absences = 0; overruns = 0 } }
+        ensures { result ≡ record { files = files_of files.items; absences = 0; overruns = 0; answers = 0 } }
     {
         SureShelf {
             alloc,
             entries: files,
             absences: 0,
             overruns: 0,
+            answers: 0,
         }
     }
 
@@ -122,6 +124,13 @@ impl SureShelf {
     {
         self.overruns
     }
+
+    /// How many reads and writes had another answer than want of memory.
+    pub fn answers(&self) -> u64
+        ensures { result ≡ self.now.answers }
+    {
+        self.answers
+    }
 }
 
 impl Shelf for SureShelf {
@@ -133,10 +142,13 @@ impl Shelf for SureShelf {
 
     ghost overruns = { λ s. s.overruns };
 
+    ghost answers = { λ s. s.answers };
+
     fn read(&mut self, name: &Text, limit: u64) -> Fetched
         ensures answer { Fetches result (Some self.old.files) name.now limit }
         ensures absences_later { self.old.absences ≤ self.new.absences }
         ensures overruns_later { self.old.overruns ≤ self.new.overruns }
+        ensures counted { self.new.answers ≡ answers_after_read result self.old.answers }
 
         // Exactly which answer comes, want of memory aside, and what it leaves.
         ensures sure { result ≢ Fetched.Failed }
@@ -151,12 +163,14 @@ impl Shelf for SureShelf {
             Fetched::TooLong => self.overruns = self.overruns.saturating_add(1),
             Fetched::Bytes(_) | Fetched::Failed | Fetched::NoMemory => (),
         }
+        self.answers = answer.counted(self.answers);
         answer
     }
 
     #[tactic(auto, unfolding(crate::specs::Shelf::set_file))]
     fn write(&mut self, name: &Text, bytes: &[u8]) -> Stored
         ensures answer { Stores result (Some self.old.files) (Some self.new.files) name.now bytes.now }
+        ensures counted { self.new.answers ≡ answers_after_write result self.old.answers }
 
         // Exactly which answer comes, want of memory aside, and what it leaves.
         ensures sure { result ≢ Stored.Failed }
@@ -164,10 +178,12 @@ impl Shelf for SureShelf {
         ensures absences { self.new.absences ≡ self.old.absences }
         ensures overruns { self.new.overruns ≡ self.old.overruns }
     {
-        match keep(self.alloc, &mut self.entries, name, bytes) {
+        let answer = match keep(self.alloc, &mut self.entries, name, bytes) {
             Ok(()) => Stored::Kept,
             Err(_) => Stored::NoMemory,
-        }
+        };
+        self.answers = answer.counted(self.answers);
+        answer
     }
 }
 
@@ -179,6 +195,7 @@ impl Shelf for SureShelf {
 #[derive(Debug, Drop)]
 pub struct MemShelf {
     inner: SureShelf,
+    answers: u64,
     log: CallLog,
 }
 
@@ -189,7 +206,7 @@ impl Model for MemShelf {
 
     ghost coded = { mem_files_code };
 
-    ghost view = { λ s. record { files = s.inner.files; absences = s.inner.absences; overruns = s.inner.overruns; log = s.log } };
+    ghost view = { λ s. record { files = s.inner.files; absences = s.inner.absences; overruns = s.inner.overruns; answers = s.answers; log = s.log } };
 }
 
 impl MemShelf {
@@ -198,10 +215,11 @@ impl MemShelf {
     /// A shelf of these files that fails at the calls with these numbers. Where a name stands twice, its first
     /// file counts.
     pub fn new(alloc: Global, files: Vec<(Text, Vec<u8>)>, failing: Vec<u64>) -> MemShelf
-        ensures { result ≡ record { files = files_of files.items; absences = 0; overruns = 0; log = new_log failing.items } }
+        ensures { result ≡ record { files = files_of files.items; absences = 0; overruns = 0; answers = 0; log = new_log failing.items } }
     {
         MemShelf {
             inner: SureShelf::new(alloc, files),
+            answers: 0,
             log: CallLog::new(failing),
         }
     }
@@ -240,6 +258,13 @@ impl MemShelf {
     {
         self.inner.overruns()
     }
+
+    /// How many reads and writes had another answer than want of memory.
+    pub fn answers(&self) -> u64
+        ensures { result ≡ self.now.answers }
+    {
+        self.answers
+    }
 }
 
 impl Shelf for MemShelf {
@@ -251,12 +276,15 @@ impl Shelf for MemShelf {
 
     ghost overruns = { λ s. s.overruns };
 
+    ghost answers = { λ s. s.answers };
+
     fn read(&mut self, name: &Text, limit: u64) -> Fetched
         ensures answer { Fetches result (Some self.old.files) name.now limit }
         ensures faults_later { self.old.log.faults ≤ self.new.log.faults }
         ensures absences_later { self.old.absences ≤ self.new.absences }
         ensures overruns_later { self.old.overruns ≤ self.new.overruns }
         ensures failed { result ≡ Fetched.Failed → Rose self.old.log.faults self.new.log.faults }
+        ensures counted { self.new.answers ≡ answers_after_read result self.old.answers }
 
         // Exactly which answer comes, want of memory aside, and what it leaves.
         ensures fails { (result ≡ Fetched.Failed) ↔ IsTrue (fails_next self.old.log) }
@@ -266,10 +294,13 @@ impl Shelf for MemShelf {
         ensures overruns { self.new.overruns ≡ overruns_after result self.old.overruns }
         ensures log { self.new.log ≡ after_call self.old.log }
     {
-        if self.log.fails_next() {
-            return Fetched::Failed;
-        }
-        self.inner.read(name, limit)
+        let answer = if self.log.fails_next() {
+            Fetched::Failed
+        } else {
+            self.inner.read(name, limit)
+        };
+        self.answers = answer.counted(self.answers);
+        answer
     }
 
     #[tactic(auto, unfolding(crate::specs::Shelf::set_file))]
@@ -277,6 +308,7 @@ impl Shelf for MemShelf {
         ensures answer { Stores result (Some self.old.files) (Some self.new.files) name.now bytes.now }
         ensures faults_later { self.old.log.faults ≤ self.new.log.faults }
         ensures failed { result ≡ Stored.Failed → Rose self.old.log.faults self.new.log.faults }
+        ensures counted { self.new.answers ≡ answers_after_write result self.old.answers }
 
         // Exactly which answer comes, want of memory aside, and what it leaves.
         ensures fails { (result ≡ Stored.Failed) ↔ IsTrue (fails_next self.old.log) }
@@ -285,9 +317,12 @@ impl Shelf for MemShelf {
         ensures overruns { self.new.overruns ≡ self.old.overruns }
         ensures log { self.new.log ≡ after_call self.old.log }
     {
-        if self.log.fails_next() {
-            return Stored::Failed;
-        }
-        self.inner.write(name, bytes)
+        let answer = if self.log.fails_next() {
+            Stored::Failed
+        } else {
+            self.inner.write(name, bytes)
+        };
+        self.answers = answer.counted(self.answers);
+        answer
     }
 }

@@ -3,6 +3,7 @@ ghost use Rattle.std.specs.Prelude.{◌≡◌, ◌≢◌, ◌↔◌, ℕ, ◌<�
 ghost use Rattle.sp_base.specs.Counts.{Rose};
 ghost use Rattle.sp_base.specs.Memory.{IfTook, after_call, fails_next, held_after};
 ghost use Rattle.sp_base.specs.Sink.{Takes};
+ghost use Rattle.sp_base.specs.Told.{Grows};
 
 use crate::call_logs::CallLog;
 use crate::sinks::{Put, Sink};
@@ -50,12 +51,15 @@ impl SureSink {
 impl Sink for SureSink {
     ghost held = { λ s. Some s.bytes };
 
+    ghost sent = { λ s. Some s.bytes };
+
     ghost faults = { λ _. 0 };
 
-    #[tactic(auto, using(crate::proofs::ToldLaws::told_laws))]
+    #[tactic(auto, using(crate::proofs::ToldLemmas::told_laws, crate::proofs::WritingLemmas::grows_if))]
     fn write(&mut self, piece: &[u8]) -> Put
         requires { 0 < length piece.now }
         ensures bytes { Takes result (Some self.old.bytes) (Some self.new.bytes) piece.now }
+        ensures grown { Grows (Some self.old.bytes) (Some self.new.bytes) }
 
         // Exactly which answer comes, want of memory aside, and what it leaves.
         ensures sure { result ≢ Put.Failed }
@@ -130,11 +134,15 @@ impl MemSink {
 impl Sink for MemSink {
     ghost held = { λ s. Some s.bytes };
 
+    ghost sent = { λ s. Some s.bytes };
+
     ghost faults = { λ s. s.log.faults };
 
+    #[tactic(auto, using(crate::proofs::WritingLemmas::grows_rules))]
     fn write(&mut self, piece: &[u8]) -> Put
         requires { 0 < length piece.now }
         ensures bytes { Takes result (Some self.old.bytes) (Some self.new.bytes) piece.now }
+        ensures grown { Grows (Some self.old.bytes) (Some self.new.bytes) }
         ensures later { self.old.log.faults ≤ self.new.log.faults }
         ensures failed { result ≡ Put.Failed → Rose self.old.log.faults self.new.log.faults }
 

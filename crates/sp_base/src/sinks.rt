@@ -1,8 +1,9 @@
 //! Where bytes go.
-ghost use Rattle.std.specs.Prelude.{◌≡◌, ℕ, ◌<◌, ◌≤◌, List, length, Option, OnOk, OnErr, Bool, true, IsTrue};
+ghost use Rattle.std.specs.Prelude.{◌≡◌, ℕ, ◌<◌, ◌≤◌, List, length, Option, Bool, true, IsTrue};
+ghost use Rattle.std.specs.Borrow.{GName};
 ghost use Rattle.sp_base.specs.Counts.{Rose};
 ghost use Rattle.sp_base.specs.Sink.{Takes};
-ghost use Rattle.sp_base.specs.Told.{append, AppendsPart};
+ghost use Rattle.sp_base.specs.Told.{Grows};
 
 /// What a sink answers to a write.
 #[derive(Clone, Copy, PartialEq, Eq, Debug)]
@@ -17,11 +18,17 @@ pub enum Put {
 
 /// A sink of bytes. It may tell the bytes that it holds, and counts its faults.
 pub trait Sink {
-    // The bytes that it holds, where they are told.
+    // The bytes that it took, where they are told.
     ghost held: { Self → Option (List ℕ) };
+
+    // The front of them that has gone on; all of them in a sink that keeps none back.
+    ghost sent: { Self → Option (List ℕ) };
 
     // How many writes failed.
     ghost faults: { Self → ℕ };
+
+    // Which reference it writes through, where it does; it always writes through the same one.
+    ghost name: { Self → GName } = { λ _. 0 };
 
     // Whether its writes can answer that there is no memory.
     ghost takes_memory: { Bool } = { true };
@@ -30,7 +37,9 @@ pub trait Sink {
     fn write(&mut self, piece: &[u8]) -> Put
         requires { 0 < length piece.now }
         ensures bytes { Takes result (held self.old) (held self.new) piece.now }
+        ensures grown { Grows (sent self.old) (sent self.new) }
         ensures later { faults self.old ≤ faults self.new }
+        ensures same { name self.new ≡ name self.old }
         ensures failed { result ≡ Put.Failed → Rose (faults self.old) (faults self.new) }
         ensures no_memory { result ≡ Put.NoMemory → IsTrue takes_memory };
 }
@@ -44,25 +53,18 @@ pub enum SinkEnd {
     NoMemory,
 }
 
-/// Writes the whole piece, in at most as many writes as it has bytes. It takes no memory of its own.
-///
-/// On an error a front part of the piece was written. `NoMemory` is the sink's own answer, passed on.
-#[tactic(auto, using(crate::proofs::ToldLaws::told_laws))]
-pub fn write_all<K: Sink>(sink: &mut K, piece: &[u8]) -> Result<(), SinkEnd>
-    ensures ok { OnOk result (K.held sink.new ≡ append (K.held sink.old) piece.now) }
-    ensures part { OnErr result (AppendsPart (K.held sink.old) (K.held sink.new) piece.now) }
-    ensures later { K.faults sink.old ≤ K.faults sink.new }
-    ensures fault { result ≡ Err SinkEnd.Fault → Rose (K.faults sink.old) (K.faults sink.new) }
-    ensures no_memory { result ≡ Err SinkEnd.NoMemory → IsTrue K.takes_memory }
-{
-    let mut at = 0;
-    while at < piece.len() {
-        let (_, rest) = piece.split_at(at);
-        match sink.write(rest) {
-            Put::Took(count) => at += count,
-            Put::Failed => return Err(SinkEnd::Fault),
-            Put::NoMemory => return Err(SinkEnd::NoMemory),
-        }
+impl<K: Sink> Sink for &mut K {
+    ghost held = { λ sink. K.held sink.now };
+
+    ghost sent = { λ sink. K.sent sink.now };
+
+    ghost faults = { λ sink. K.faults sink.now };
+
+    ghost name = { λ sink. sink.ghost_name };
+
+    ghost takes_memory = { K.takes_memory };
+
+    fn write(&mut self, piece: &[u8]) -> Put {
+        Sink::write(&mut **self, piece)
     }
-    Ok(())
 }

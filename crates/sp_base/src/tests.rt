@@ -1,7 +1,7 @@
 //! What the clauses leave open: that there is memory, and that the words mean what their readers take them for.
 use crate::{
-    Fetched, Got, MemShelf, MemSink, MemSource, Shelf, SinkEnd, Source, Status, Stored, SureShelf,
-    SureSink, SureSource, Text, WordList, write_all,
+    Buffered, Fetched, Got, MemShelf, MemSink, MemSource, Shelf, Sink, SinkEnd, Source, Status,
+    Stored, SureShelf, SureSink, SureSource, Text, WordList, write_all,
 };
 use std::alloc::{AllocError, Global};
 use std::process::Abort;
@@ -206,7 +206,10 @@ fn shelves_keep_files(rt: HostRuntime) -> Result<(), Fail> {
     );
     ask_all(&rt, rt.alloc(), &mut shelf, &some_calls())?;
     assert_eq!(rt; (shelf.calls(), shelf.faults()), (11, 2));
-    assert_eq!(rt; (shelf.absences(), shelf.overruns()), (2, 1));
+    assert_eq!(rt;
+        (shelf.absences(), shelf.overruns(), shelf.answers()),
+        (2, 1, 11)
+    );
     let name = text(rt.alloc(), b"c")?;
     assert_eq!(rt; shelf.file(&name), Some(b"then".as_slice()));
     Ok(())
@@ -222,8 +225,35 @@ fn sure_shelves_keep_files(rt: HostRuntime) -> Result<(), Fail> {
         read(b"d", b"more"),
     ];
     ask_all(&rt, rt.alloc(), &mut shelf, &calls)?;
-    assert_eq!(rt; (shelf.absences(), shelf.overruns()), (1, 1));
+    assert_eq!(rt;
+        (shelf.absences(), shelf.overruns(), shelf.answers()),
+        (1, 1, 4)
+    );
     let name = text(rt.alloc(), b"a")?;
     assert_eq!(rt; shelf.file(&name), Some(b"12345".as_slice()));
+    Ok(())
+}
+
+/// Writes 28,571 pieces of seven bytes, and gives how many of these writes failed.
+fn write_many<K: Sink>(sink: &mut K) -> u64 {
+    let mut failed = 0_u64;
+    for _ in 0..28_571_u32 {
+        if write_all(sink, b"abcdefg").is_err() {
+            failed = failed.saturating_add(1);
+        }
+    }
+    failed
+}
+
+#[test]
+fn a_buffer_keeps_what_was_not_sent(rt: HostRuntime) -> Result<(), Fail> {
+    let failing = Vec::from_slice(rt.alloc(), &[2, 5])?;
+    let Ok(mut buffer) = Buffered::new(rt.alloc(), MemSink::new(rt.alloc(), 40_000, failing)) else {
+        return Err(Fail::from(AllocError));
+    };
+    let failed = write_many(&mut buffer);
+    let ended = buffer.flush();
+    let (sent, calls) = (buffer.inner().bytes().len(), buffer.inner().calls());
+    assert_eq!(rt; (failed, ended, sent, calls), (2, Ok(()), 199_989, 8));
     Ok(())
 }

@@ -36,10 +36,11 @@ legal_list : (m : ModelParts) (best : ℤ) (found : List (List ℤ)) (nodes : �
 legal_list m best found nodes least list e = record {
   feasible = λ k d h. (kept k d h).feasible;
   once = pairs_from_distinct (points_total m) found (IsDistinct-from_sorted (point_cmp m) found list.ascending);
-  near = λ other l k d h. subst (λ b. objective m (get_or found k d) ≤ℤ cut_of b no_gap m.scale) (same other l) (kept k d h).near;
-  full = λ h. absurd (ended h);
-  limited = λ h. absurd (ended h);
-  within = λ h. absurd (ended h);
+  within_cut = λ other l k d h. subst (λ b. objective m (get_or found k d) ≤ℤ cut_of b no_gap m.scale) (same other l) (kept k d h).near;
+  tree_is_full = λ h. absurd (ended h);
+  tree_is_too_large = λ h. absurd (ended h);
+  under_limit = λ h. absurd (ended h);
+  tree_is_whole = λ h. e;
   odd = odd_nodes _ nodes e;
   bounded = omega (arith, e);
 }
@@ -58,14 +59,15 @@ legal_list m best found nodes least list e = record {
 
 -- no found point is legal with any end
 legal_none : (m : ModelParts) (ended : RunEnd) (nodes : ℕ) → (ended ≡ end.NodeLimit → node_limit < nodes + 2) → (ended ≡ end.NodeLimit → node_limit < room_of m)
-    → (ended ≡ end.NodeLimit → nodes ≤ node_limit) → (half : ℕ) × (nodes ≡ 2 * half + 1) → nodes ≤ room_of m → IsLegal m [] ended nodes
-legal_none m ended nodes full limited within odd bounded = record {
+    → (ended ≡ end.NodeLimit → nodes ≤ node_limit) → (ended ≡ end.Done → nodes ≡ room_of m) → (half : ℕ) × (nodes ≡ 2 * half + 1) → nodes ≤ room_of m → IsLegal m [] ended nodes
+legal_none m ended nodes full large within whole odd bounded = record {
   feasible = λ k d h. absurd (omega arith);
   once = λ i j d h k. absurd (omega arith);
-  near = λ best l k d h. absurd (omega arith);
-  full = full;
-  limited = limited;
-  within = within;
+  within_cut = λ best l k d h. absurd (omega arith);
+  tree_is_full = full;
+  tree_is_too_large = large;
+  under_limit = within;
+  tree_is_whole = whole;
   odd = odd;
   bounded = bounded;
 }
@@ -75,7 +77,7 @@ pub solved_none : (m : ModelParts) (s : Solved) → s.best ≡ None → s.listed
 solved_none m s b l e n none = record {
   answer = subst (λ ended. EndsWith m ended s.best (points_of s.listed.items)) (sym e) (subst (λ best. HasList m best (points_of s.listed.items)) (sym b) empty);
   small = subst (λ o. IfSome o (λ v. unsigned_abs v ≤ 10 ^ 36)) (sym b) tt;
-  legal = subst (λ xs. IsLegal m (points_of xs) s.end s.nodes) (sym l) (legal_none m s.end s.nodes (λ h. absurd (ended h)) (λ h. absurd (ended h)) (λ h. absurd (ended h)) (odd_nodes _ s.nodes n) (omega (arith, n)));
+  legal = subst (λ xs. IsLegal m (points_of xs) s.end s.nodes) (sym l) (legal_none m s.end s.nodes (λ h. absurd (ended h)) (λ h. absurd (ended h)) (λ h. absurd (ended h)) (λ _. n) (odd_nodes _ s.nodes n) (omega (arith, n)));
 }
   where
     ended : s.end ≡ end.NodeLimit → ⊥
@@ -101,8 +103,11 @@ pub solved_stopped : (m : ModelParts) (s : Solved) → s.best ≡ None → s.lis
 solved_stopped m s b l e n h = record {
   answer = subst (λ ended. EndsWith m ended s.best (points_of s.listed.items)) (sym e) tt;
   small = subst (λ o. IfSome o (λ v. unsigned_abs v ≤ 10 ^ 36)) (sym b) tt;
-  legal = subst (λ xs. IsLegal m (points_of xs) s.end s.nodes) (sym l) (legal_none m s.end s.nodes (λ _. omega (arith, n)) (λ _. h) (λ _. omega (arith, n)) (99999, n) (omega (arith, n, h)));
+  legal = subst (λ xs. IsLegal m (points_of xs) s.end s.nodes) (sym l) (legal_none m s.end s.nodes (λ _. omega (arith, n)) (λ _. h) (λ _. omega (arith, n)) (λ d. absurd (done d)) (99999, n) (omega (arith, n, h)));
 }
+  where
+    done : s.end ≡ end.Done → ⊥
+    done d = let both : end.NodeLimit ≡ end.Done = sym e ∙ d in cc
 
 abbrev gaps_of : Gap → Gap → Gaps
 gaps_of x y = record { abs = x; rel = y }

@@ -1,5 +1,4 @@
 pub mod Endings
-pub mod Outputs
 pub mod Ready
 pub mod Replies
 pub mod Runs

@@ -28,8 +28,8 @@ is_own (entry.Ended ended nodes) = true
 is_own (entry.Fetched answer) = false
 is_own (entry.Stored answer) = false
 
--- one note, and then the run's own
-pub record Notes (first : Entry) (entries : List Entry) : Type 0 where
+-- the shelf's answer, and then the run's own notes
+pub record NotesAfter (first : Entry) (entries : List Entry) : Type 0 where
   pub rest : List Entry
   pub noted : entries ≡ first ∷ rest
   pub own : IsTrue (list_all is_own rest)

@@ -1,5 +1,5 @@
 -- What a run is asked, notes, prints and answers.
-use Rattle.std.specs.Prelude.{◌≡◌, ◌≢◌, ℕ, ◌+◌, ◌*◌, ◌^◌, ◌<◌, ◌≤◌, ◌⊎◌, ◌==◌, Bool, true, false, if◌then◌else◌, List, [], ◌∷◌, ◌++◌, map, All, AllPairs, Option, None, Some, ℤ, ◌≤ℤ◌}
+use Rattle.std.specs.Prelude.{◌≡◌, ◌≢◌, ℕ, ◌+◌, ◌*◌, ◌^◌, ◌<◌, ◌≤◌, ◌⊎◌, ◌==◌, Bool, true, false, IsTrue, if◌then◌else◌, List, [], ◌∷◌, ◌++◌, map, All, AllPairs, Option, None, Some, ℤ, ◌≤ℤ◌}
 use Rattle.std.specs.List.{AllByRecursion}
 use Rattle.sp_base.specs.Told.{append, AppendsPart}
 use Rattle.sp_base.specs.Shelf.{Files, Fetches}
@@ -56,11 +56,13 @@ pub record IsLegal (m : ModelParts) (found : List (List ℤ)) (ended : RunEnd) (
   pub feasible : All (Feasible m) found
   pub once : AllPairs (λ x y. x ≢ y) found
   -- they lie within the cut
-  pub near : (best : ℤ) → IsLeast m best → All (λ x. objective m x ≤ℤ cut_of best no_gap m.scale) found
-  -- the node limit stops a run only where the tree has no room for another split, and the limit is below what it can need
-  pub full : ended ≡ end.NodeLimit → node_limit < nodes + 2
-  pub limited : ended ≡ end.NodeLimit → node_limit < room_of m
-  pub within : ended ≡ end.NodeLimit → nodes ≤ node_limit
+  pub within_cut : (best : ℤ) → IsLeast m best → All (λ x. objective m x ≤ℤ cut_of best no_gap m.scale) found
+  -- the node limit stops a run only where the tree has no room for another split, and the largest tree of the model passes it
+  pub tree_is_full : ended ≡ end.NodeLimit → node_limit < nodes + 2
+  pub tree_is_too_large : ended ≡ end.NodeLimit → node_limit < room_of m
+  pub under_limit : ended ≡ end.NodeLimit → nodes ≤ node_limit
+  -- a run that found every listed point made the largest tree
+  pub tree_is_whole : ended ≡ end.Done → nodes ≡ room_of m
   -- a tree has an odd number of nodes, and at most the room of its model
   pub odd : (half : ℕ) × (nodes ≡ 2 * half + 1)
   pub bounded : nodes ≤ room_of m
@@ -110,12 +112,12 @@ pub record IsRun (bytes : List ℕ) (rest : List Entry) (text : List ℕ) (s : S
   pub legal : IsLegal m found ended nodes
   pub status_is : s ≡ status.Clean
 
--- what follows the shelf's answer
-abbrev pub Follows : FetchNote → List Entry → List ℕ → Status → Type 0
-Follows (note.Bytes bytes) rest text s = IsSyntax bytes rest text s ⊎ IsRun bytes rest text s
-Follows note.Absent rest text s = Refuses wording.FileAbsent rest text s
-Follows note.Failed rest text s = Refuses wording.FileFault rest text s
-Follows note.TooLong rest text s = Refuses wording.FileTooLong rest text s
+-- what comes after the shelf's answer
+abbrev pub AfterFetch : FetchNote → List Entry → List ℕ → Status → Type 0
+AfterFetch (note.Bytes bytes) rest text s = IsSyntax bytes rest text s ⊎ IsRun bytes rest text s
+AfterFetch note.Absent rest text s = Refuses wording.FileAbsent rest text s
+AfterFetch note.Failed rest text s = Refuses wording.FileFault rest text s
+AfterFetch note.TooLong rest text s = Refuses wording.FileTooLong rest text s
 
 -- The text of a run, with the journal and the status.
 
@@ -130,7 +132,7 @@ pub record IsFileRun (entries : List Entry) (text : List ℕ) (s : Status) : Typ
   pub answer : FetchNote
   pub rest : List Entry
   pub noted : entries ≡ entry.Fetched answer ∷ rest
-  pub follows : Follows answer rest text s
+  pub rest_is : AfterFetch answer rest text s
 
 -- what a run over these words says, once it is known which file they name
 abbrev pub RunText : Option (List ℕ) → List Entry → List ℕ → Status → Type 0
@@ -152,19 +154,31 @@ pub record PutsPart (says : List Entry → List ℕ → Status → Type 0) (entr
   pub said : says entries text meant
   pub held : AppendsPart old new text
 
--- nothing, and at most the shelf's answer is noted
-pub record PutsNothing (entries : List Entry) (old new : Option (List ℕ)) : Type 0 where
+-- nothing, before which these notes can have been made
+pub record PutsNothing (unsaid : List Entry → Type 0) (entries : List Entry) (old new : Option (List ℕ)) : Type 0 where
   pub held : new ≡ old
-  pub noted : (entries ≡ []) ⊎ ((answer : FetchNote) × (entries ≡ entry.Fetched answer ∷ []))
+  pub noted : unsaid entries
 
-abbrev pub Outcome : (List Entry → List ℕ → Status → Type 0) → List Entry → Status → Option (List ℕ) → Option (List ℕ) → Type 0
-Outcome says entries status.Clean old new = PutsAll says entries status.Clean old new
-Outcome says entries status.SomeRefused old new = PutsAll says entries status.SomeRefused old new
-Outcome says entries status.Usage old new = PutsAll says entries status.Usage old new
-Outcome says entries status.SinkFault old new = PutsPart says entries old new
-Outcome says entries status.NoMemory old new = PutsPart says entries old new ⊎ PutsNothing entries old new
-Outcome says entries status.SourceFault old new = ⊥
-Outcome says entries status.StreamTooLong old new = ⊥
+-- where the words name a file, memory can be wanting before any text goes out: then nothing is noted, or the bytes of the
+-- file are
+abbrev pub IsUnsaid : List Entry → Type 0
+IsUnsaid entries = (entries ≡ []) ⊎ ((bytes : List ℕ) × (entries ≡ entry.Fetched (note.Bytes bytes) ∷ []))
+
+-- the notes with which memory can be wanting before any text goes out, once it is known which file the words name
+abbrev pub RunUnsaid : Option (List ℕ) → List Entry → Type 0
+RunUnsaid None = λ entries. ⊥
+RunUnsaid (Some name) = IsUnsaid
+
+-- What went out when a run ended with this status. takes_memory: whether the sink's writes can answer that there is no
+-- memory.
+abbrev pub Outcome : Bool → (List Entry → List ℕ → Status → Type 0) → (List Entry → Type 0) → List Entry → Status → Option (List ℕ) → Option (List ℕ) → Type 0
+Outcome takes_memory says unsaid entries status.Clean old new = PutsAll says entries status.Clean old new
+Outcome takes_memory says unsaid entries status.SomeRefused old new = PutsAll says entries status.SomeRefused old new
+Outcome takes_memory says unsaid entries status.Usage old new = PutsAll says entries status.Usage old new
+Outcome takes_memory says unsaid entries status.SinkFault old new = PutsPart says entries old new
+Outcome takes_memory says unsaid entries status.NoMemory old new = (IsTrue takes_memory × PutsPart says entries old new) ⊎ PutsNothing unsaid entries old new
+Outcome takes_memory says unsaid entries status.SourceFault old new = ⊥
+Outcome takes_memory says unsaid entries status.StreamTooLong old new = ⊥
 
 -- The shelf's part.
 
@@ -180,18 +194,24 @@ answer_of note.TooLong = fetched.TooLong
 answer_of note.Failed = fetched.Failed
 
 -- what a note says of the told files, where the words name this one
-abbrev pub IsTrueOf : Option Files → List ℕ → Entry → Type 0
-IsTrueOf files name (entry.Fetched answer) = Fetches (answer_of answer) files name file_limit
-IsTrueOf files name (entry.Stored answer) = ⊥
-IsTrueOf files name (entry.Found x) = Unit {0}
-IsTrueOf files name (entry.Ended ended nodes) = Unit {0}
+abbrev pub IsAnswerOf : Option Files → List ℕ → Entry → Type 0
+IsAnswerOf files name (entry.Fetched answer) = Fetches (answer_of answer) files name file_limit
+IsAnswerOf files name (entry.Stored answer) = ⊥
+IsAnswerOf files name (entry.Found x) = Unit {0}
+IsAnswerOf files name (entry.Ended ended nodes) = Unit {0}
 
 -- each note of the shelf's answers is true of the told files
-abbrev pub AreTrueOf : Option Files → Option (List ℕ) → List Entry → Type 0
-AreTrueOf files None entries = entries ≡ []
-AreTrueOf files (Some name) entries = AllByRecursion (IsTrueOf files name) entries
+abbrev pub AreAnswersOf : Option Files → Option (List ℕ) → List Entry → Type 0
+AreAnswersOf files None entries = entries ≡ []
+AreAnswersOf files (Some name) entries = AllByRecursion (IsAnswerOf files name) entries
 
--- a note that the file wasn't there; that it was too long; that the shelf failed
+-- a note of an answer of the shelf; that the file wasn't there; that it was too long; that the shelf failed
+abbrev pub is_answer : Entry → Bool
+is_answer (entry.Fetched answer) = true
+is_answer (entry.Stored answer) = true
+is_answer (entry.Found x) = false
+is_answer (entry.Ended ended nodes) = false
+
 abbrev pub is_absence : Entry → Bool
 is_absence (entry.Fetched note.Absent) = true
 is_absence e = false

@@ -2,7 +2,6 @@
 #![tactic(auto)]
 
 mod journals;
-mod outputs;
 mod preparing;
 mod printing;
 mod replying;

@@ -6,8 +6,8 @@ ghost use Rattle.sp_model.specs.Rules.{IsLawful};
 use crate::journals::{Entry, RunEnd};
 use crate::solving::{Solved, solve};
 use sp_base::WordList;
-use sp_small_lp::NamedModel;
 use sp_model::{BuildRefusal, Found, Model, NoMemory};
+use sp_small_lp::NamedModel;
 use std::alloc::{AllocError, Global};
 
 /// What the reply to a run needs beside the notes.

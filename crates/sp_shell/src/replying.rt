@@ -1,20 +1,17 @@
 //! The reply to the run of a model, from what was noted.
-ghost use Rattle.std.specs.Prelude.{◌≡◌, ◌≤◌, ◌^◌, ◌++◌, [], All, length, flat_map, Err, OnOk, OnErr, IfSome, unsigned_abs};
-ghost use Rattle.sp_base.specs.Counts.{Rose};
-ghost use Rattle.sp_base.specs.Told.{append, AppendsPart};
+ghost use Rattle.std.specs.Prelude.{◌≡◌, ◌≤◌, ◌^◌, ◌++◌, All, length, flat_map, IfSome, unsigned_abs};
+ghost use Rattle.sp_base.specs.Writing.{Writes};
 ghost use Rattle.sp_model.specs.Boxes.{IsWithin};
 ghost use Rattle.sp_model.specs.Models.{root_of};
-ghost use Rattle.sp_shell.specs.Outputs.{Prints};
 ghost use Rattle.sp_shell.specs.Replies.{done_head, entry_line, IsPrintable, solution_line};
 
 use crate::journals::Entry;
 use crate::printing::{print_head, print_line};
-use sp_base::{Sink, SinkEnd, Text};
+use sp_base::{Sink, SinkEnd, Text, texts_grow, texts_join};
 use sp_model::{Model, Point};
 
 /// Prints the line of a point.
 fn print_point<K: Sink>(
-    waiting: &mut Vec<u8>,
     sink: &mut K,
     names: &[Text],
     model: &Model,
@@ -22,31 +19,27 @@ fn print_point<K: Sink>(
 ) -> Result<(), SinkEnd>
     requires within { IsWithin (root_of model.now) point.now }
     requires long { length point.now ≡ length names.now }
-    ensures printed { Prints result (K.held sink.old) (K.held sink.new) waiting.old.items waiting.new.items (solution_line names.now model.now point.now) }
-    ensures later { K.faults sink.old ≤ K.faults sink.new }
-    ensures fault { result ≡ Err SinkEnd.Fault → Rose (K.faults sink.old) (K.faults sink.new) }
+    ensures written { Writes K.Sink result sink.old sink.new (solution_line names.now model.now point.now) }
 {
     let maximize = model.parts().maximize;
     let value = model.value(point);
-    print_line(waiting, sink, names, maximize, &value, point.as_slice())
+    print_line(sink, names, maximize, &value, point.as_slice())
 }
 
 /// Prints the line of a noted point, and nothing for another note.
-#[tactic(auto, unfolding(crate::specs::Replies::entry_line), using(crate::proofs::OutputLemmas::printed_nothing))]
+#[tactic(auto, unfolding(crate::specs::Replies::entry_line))]
 fn print_entry<K: Sink>(
-    waiting: &mut Vec<u8>,
     sink: &mut K,
     names: &[Text],
     model: &Model,
     entry: &Entry,
 ) -> Result<(), SinkEnd>
     requires { IsPrintable names.now model.now entry.now }
-    ensures printed { Prints result (K.held sink.old) (K.held sink.new) waiting.old.items waiting.new.items (entry_line names.now model.now entry.now) }
-    ensures later { K.faults sink.old ≤ K.faults sink.new }
-    ensures fault { result ≡ Err SinkEnd.Fault → Rose (K.faults sink.old) (K.faults sink.new) }
+    ensures written { Writes K.Sink result sink.old sink.new (entry_line names.now model.now entry.now) }
 {
+    texts_join();
     match entry {
-        Entry::Found(point) => print_point(waiting, sink, names, model, point),
+        Entry::Found(point) => print_point(sink, names, model, point),
         Entry::Fetched(_) => Ok(()),
         Entry::Stored(_) => Ok(()),
         Entry::Ended { .. } => Ok(()),
@@ -55,19 +48,17 @@ fn print_entry<K: Sink>(
 
 /// Prints the lines of the noted points.
 fn print_entries<K: Sink>(
-    waiting: &mut Vec<u8>,
     sink: &mut K,
     names: &[Text],
     model: &Model,
     entries: &[Entry],
 ) -> Result<(), SinkEnd>
     requires { All (IsPrintable names.now model.now) entries.now }
-    ensures printed { Prints result (K.held sink.old) (K.held sink.new) waiting.old.items waiting.new.items (flat_map (entry_line names.now model.now) entries.now) }
-    ensures later { K.faults sink.old ≤ K.faults sink.new }
-    ensures fault { result ≡ Err SinkEnd.Fault → Rose (K.faults sink.old) (K.faults sink.new) }
+    ensures written { Writes K.Sink result sink.old sink.new (flat_map (entry_line names.now model.now) entries.now) }
 {
+    texts_grow();
     for entry in entries {
-        match print_entry(waiting, sink, names, model, entry) {
+        match print_entry(sink, names, model, entry) {
             Err(end) => return Err(end),
             Ok(()) => {}
         }
@@ -76,9 +67,7 @@ fn print_entries<K: Sink>(
 }
 
 /// Prints the reply of a complete list.
-#[tactic(auto, using(crate::proofs::OutputLemmas::then_rules))]
 pub fn print_done<K: Sink>(
-    waiting: &mut Vec<u8>,
     sink: &mut K,
     names: &[Text],
     model: &Model,
@@ -88,13 +77,12 @@ pub fn print_done<K: Sink>(
 ) -> Result<(), SinkEnd>
     requires best { IfSome best.now (λ v. unsigned_abs v ≤ 10 ^ 36) }
     requires entries { All (IsPrintable names.now model.now) entries.now }
-    ensures printed { Prints result (K.held sink.old) (K.held sink.new) waiting.old.items waiting.new.items (done_head model.now.maximize best.now number ++ flat_map (entry_line names.now model.now) entries.now) }
-    ensures later { K.faults sink.old ≤ K.faults sink.new }
-    ensures fault { result ≡ Err SinkEnd.Fault → Rose (K.faults sink.old) (K.faults sink.new) }
+    ensures written { Writes K.Sink result sink.old sink.new (done_head model.now.maximize best.now number ++ flat_map (entry_line names.now model.now) entries.now) }
 {
     let maximize = model.parts().maximize;
-    match print_head(waiting, sink, maximize, best, number) {
+    texts_join();
+    match print_head(sink, maximize, best, number) {
         Err(end) => Err(end),
-        Ok(()) => print_entries(waiting, sink, names, model, entries),
+        Ok(()) => print_entries(sink, names, model, entries),
     }
 }

@@ -1,5 +1,5 @@
 use Rattle.std.proofs.Common.{Some, sym, ap, ◌∙◌}
-use Rattle.sp_base.proofs.Entries.{file_at, file_nowhere}
+use Rattle.sp_base.proofs.EntryLemmas.{file_at, file_nowhere}
 use Rattle.sp_base.proofs.memory_shelves.find_file.Goals as goal
 
 pub returns-in-Some : goal.returns-in-Some

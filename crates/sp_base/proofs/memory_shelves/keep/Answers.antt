@@ -4,7 +4,7 @@ use Rattle.std.specs.declared.alloc.Global.{Global}
 use Rattle.std.specs.List.{position}
 use Rattle.sp_base.specs.Memory.{files_of}
 use Rattle.sp_base.specs.Shelf.{with_file}
-use Rattle.sp_base.proofs.Entries.{is_named, files_of_set, files_of_push}
+use Rattle.sp_base.proofs.EntryLemmas.{is_named, files_of_set, files_of_push}
 use Rattle.sp_base.proofs.memory_shelves.keep.Goals as goal
 
 pub returns-in-Some-clause-ok : goal.returns-in-Some-clause-ok

@@ -1,17 +1,20 @@
-use Rattle.std.proofs.Common.{◌<◌, length, arith}
+use Rattle.std.proofs.Common.{◌<◌, length, refl, arith}
 use Rattle.sp_shell.specs.Replies.{entry_line}
-use Rattle.sp_shell.proofs.OutputLemmas.{printed_none, printed_step, printed_fails, flat_map_drop}
+use Rattle.sp_shell.proofs.OutputLemmas.{flat_map_drop, flat_map_end}
 use Rattle.sp_shell.proofs.replying.print_entries.Goals as goal
 
 pub loop-entry-init : goal.loop-entry-init
-loop-entry-init g c = (printed_none _ _ _, omega arith)
+loop-entry-init g c = c.texts_grow.ensures.begins _ _ _ _ refl
 
-pub returns-in-Err-clause-printed : goal.returns-in-Err-clause-printed
-returns-in-Err-clause-printed g c =
+pub returns-in-Err : goal.returns-in-Err
+returns-in-Err g c =
     let within : c.loop-entry.entry-index < length c.args.entries.now = omega arith in
-    printed_fails _ _ c.loop-entry.invariant.0 (flat_map_drop (entry_line c.args.names.now c.args.model.now) c.args.entries.now c.loop-entry.entry-index c.entry-item.result within c.entry-item.is) c.in-Err.ensures.printed
+    record { written = c.texts_grow.ensures.fails _ _ _ _ _ _ _ _ _ _ c.loop-entry.invariant (flat_map_drop (entry_line c.args.names.now c.args.model.now) c.args.entries.now c.loop-entry.entry-index c.entry-item.result within c.entry-item.is) c.in-Err.is c.print_entry.ensures.written }
 
 pub loop-entry-preserved : goal.loop-entry-preserved
 loop-entry-preserved g c =
     let within : c.loop-entry.entry-index < length c.args.entries.now = omega arith in
-    (printed_step _ _ c.loop-entry.invariant.0 (flat_map_drop (entry_line c.args.names.now c.args.model.now) c.args.entries.now c.loop-entry.entry-index c.entry-item.result within c.entry-item.is) c.in-Ok.ensures.printed, omega (arith, c.print_entry.ensures.later))
+    c.texts_grow.ensures.goes_on _ _ _ _ _ _ _ _ _ c.loop-entry.invariant (flat_map_drop (entry_line c.args.names.now c.args.model.now) c.args.entries.now c.loop-entry.entry-index c.entry-item.result within c.entry-item.is) c.in-Ok.is c.print_entry.ensures.written
+
+pub returns : goal.returns
+returns g c = record { written = c.texts_grow.ensures.ends _ _ _ _ _ c.loop-entry.invariant (flat_map_end (entry_line c.args.names.now c.args.model.now) c.args.entries.now c.loop-entry.entry-index (omega arith)) }

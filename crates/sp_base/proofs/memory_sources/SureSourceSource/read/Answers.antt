@@ -1,6 +1,6 @@
 use Rattle.std.proofs.Common.{◌≡◌, [], arith, take, drop, sym, ap, ◌∙◌}
 use Rattle.std.proofs.lemmas.List.{drop-drop}
-use Rattle.sp_base.proofs.Streams.{taken}
+use Rattle.sp_base.proofs.StreamLemmas.{taken}
 use Rattle.sp_base.proofs.memory_sources.SureSourceSource.read.Goals as goal
 
 pub returns-then-count-eq0-clause-bytes : goal.returns-then-count-eq0-clause-bytes

@@ -1,0 +1,4 @@
+pub mod LineLemmas
+pub mod RankLemmas
+pub mod SweepLemmas
+pub mod PoolLemmas

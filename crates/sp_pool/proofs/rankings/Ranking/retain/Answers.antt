@@ -1,0 +1,13 @@
+use Rattle.std.proofs.Common.{◌∙◌, ap, filter}
+use Rattle.sp_pool.specs.Pools.{is_listed}
+use Rattle.sp_pool.specs.InnerRanks.{Roll, swept}
+use Rattle.sp_pool.proofs.SweepLemmas.{ranked_retain}
+use Rattle.sp_pool.proofs.rankings.Ranking.retain.Goals as goal
+
+pub invariant_of-self : goal.invariant_of-self
+invariant_of-self c = (ranked_retain c.self.inside.line c.keep_all_listed.new.line c.self.inside.by_value.items _ c.args.serials.now c.self.invariant (c.keep_all_listed.ensures.items ∙ ap (λ ks. swept c.args.serials.now ks c.self.inside.line.items) c.deref.ensures.value) c.keep_held.ensures.items).0
+
+pub returns-clause-members : goal.returns-clause-members
+returns-clause-members c =
+    (ranked_retain c.self.inside.line c.keep_all_listed.new.line c.self.inside.by_value.items _ c.args.serials.now c.self.invariant (c.keep_all_listed.ensures.items ∙ ap (λ ks. swept c.args.serials.now ks c.self.inside.line.items) c.deref.ensures.value) c.keep_held.ensures.items).1
+    ∙ ap (λ (r : Roll). filter (is_listed c.args.serials.now) r.members) c.self.view_is

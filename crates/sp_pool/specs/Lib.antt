@@ -1,0 +1,4 @@
+pub mod InnerLines
+pub mod InnerPools
+pub mod InnerRanks
+pub mod Pools

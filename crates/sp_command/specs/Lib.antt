@@ -1,0 +1,6 @@
+pub mod Commands
+pub mod Filters
+pub mod InnerResults
+pub mod Keywords
+pub mod Lines
+pub mod Values

@@ -1,0 +1,19 @@
+//! Command lines: what a line of a session says.
+#![tactic(auto)]
+
+mod bounds;
+mod commands;
+mod diversity;
+mod filters;
+mod keywords;
+mod numbers;
+mod parsing;
+mod places;
+mod ranges;
+mod refusals;
+mod settings;
+mod tables;
+
+pub use commands::{Command, DiversityTerm, RangeTerm, Setting, Shown};
+pub use parsing::parse;
+pub use refusals::CommandRefusal;

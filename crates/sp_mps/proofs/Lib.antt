@@ -1,0 +1,15 @@
+pub mod NameLemmas
+pub mod StepLemmas
+pub mod FrontLemmas
+pub mod SectionLemmas
+pub mod FactLemmas
+pub mod GrowthLemmas
+pub mod KnownLemmas
+pub mod PlaceLemmas
+pub mod TableLemmas
+pub mod GatherLemmas
+pub mod DraftLemmas
+pub mod RowLemmas
+pub mod AnswerLemmas
+pub mod EndLemmas
+pub mod WellFormedLemmas

@@ -1,0 +1,4 @@
+pub mod Steps
+pub mod Room
+pub mod Reads
+pub mod Tables

@@ -13,6 +13,14 @@ IsContentsOf fetched.TooLong left limit = IfSome left (λ all. limit < length al
 IsContentsOf fetched.Failed left limit = Unit {0}
 IsContentsOf fetched.NoMemory left limit = Unit {0}
 
+-- the same of a file that the system may have said to be too long: Bytes are all that were left
+abbrev pub IsReadFrom : Fetched → Option (List ℕ) → Type 0
+IsReadFrom (fetched.Bytes bytes) left = IfSome left (λ all. bytes ≡ all)
+IsReadFrom fetched.Absent left = ⊥
+IsReadFrom fetched.TooLong left = Unit {0}
+IsReadFrom fetched.Failed left = Unit {0}
+IsReadFrom fetched.NoMemory left = Unit {0}
+
 -- the answer where a file can't be opened
 abbrev pub refusal_of : ErrorKind → Fetched
 refusal_of kind.NotFound = fetched.Absent

@@ -5,9 +5,11 @@ ghost use Rattle.sp_base.specs.Source.{Gives};
 ghost use Rattle.solpool.specs.Moves.{Takes};
 
 use sp_base::{Got, Source};
-use std::io::Read;
+use std::io::{ErrorKind, Read};
 
 /// A reader, as standard input, with a count of its failed reads. It tells nothing of its bytes.
+///
+/// A read that a signal interrupted is made again, and is no failure.
 #[derive(Drop)]
 pub struct HostSource<R: Read + Drop> {
     inner: R,
@@ -17,7 +19,8 @@ pub struct HostSource<R: Read + Drop> {
 impl<R: Read + Drop> HostSource<R> {
     /// The source of what this reader gives.
     pub fn new(inner: R) -> HostSource<R>
-        ensures { result.faults ≡ 0 }
+        ensures inner { result.inner ≡ inner }
+        ensures faults { result.faults ≡ 0 }
     {
         HostSource { inner, faults: 0 }
     }
@@ -36,13 +39,18 @@ impl<R: Read + Drop> Source for HostSource<R> {
         ensures failed { result ≡ Got.Failed → Rose self.old.faults self.new.faults }
         ensures moved { Takes result (R.remaining self.old.inner) (R.remaining self.new.inner) out.new }
     {
-        match self.inner.read(out) {
-            Ok(0) => Got::End,
-            Ok(count) => Got::Bytes(count),
-            Err(_) => {
-                self.faults = self.faults.saturating_add(1);
-                Got::Failed
+        for _ in 0..u64::MAX {
+            match self.inner.read(out) {
+                Ok(0) => return Got::End,
+                Ok(count) => return Got::Bytes(count),
+                Err(error) => {
+                    if error.kind() != ErrorKind::Interrupted {
+                        break;
+                    }
+                }
             }
         }
+        self.faults = self.faults.saturating_add(1);
+        Got::Failed
     }
 }

@@ -3,29 +3,21 @@
 
 mod inputs;
 mod outputs;
+mod program;
 mod reading;
 mod shelving;
 mod wording;
 
-use inputs::HostSource;
-use outputs::HostSink;
-use shelving::HostShelf;
-use sp_base::Status;
-use sp_shell::run;
+use program::carry_out;
 use std::process::ExitCode;
-use wording::words_of;
 
 fn main(rt: HostRuntime) -> ExitCode {
-    let alloc = rt.alloc();
-    let Ok(words) = words_of(alloc, &rt) else {
-        return ExitCode::from(Status::NoMemory.code());
-    };
-    let mut source = HostSource::new(rt.stdin());
-    let mut shelf = HostShelf::new(alloc, &rt);
-    let mut sink = HostSink::new(rt.stdout());
-    let ending = run(alloc, &words, &mut source, &mut shelf, &mut sink);
-    ExitCode::from(ending.status.code())
+    carry_out(rt.alloc(), &rt, &rt, rt.stdin(), rt.stdout())
 }
 
+#[cfg(test)]
+mod fakes;
+#[cfg(test)]
+mod program_tests;
 #[cfg(test)]
 mod tests;

@@ -1,11 +1,12 @@
 //! The files of the system as a shelf.
-ghost use Rattle.std.specs.Prelude.{◌≡◌, ℕ, List, None};
+ghost use Rattle.std.specs.Prelude.{◌≡◌, ℕ, List, None, OnOk};
+ghost use Rattle.std.specs.Io.KnownBytes.{Appends};
 ghost use Rattle.sp_base.specs.Shelf.{Fetches};
 
-use crate::reading::{contents, refused};
+use crate::reading::opened_contents;
 use sp_base::{Fetched, Shelf, Stored, Text};
 use std::alloc::Global;
-use std::fs::{File, OpenFile, OpenOptions};
+use std::fs::{File, OpenOptions};
 use std::io::{Error, ErrorKind, Write};
 use std::rt::Files;
 use std::{io, str};
@@ -84,23 +85,18 @@ fn fetch<R: Files>(alloc: Global, files: &R, name: &[u8], limit: u64) -> Fetched
     let Ok(path) = str::from_utf8(name) else {
         return Fetched::Absent;
     };
-    match OpenOptions::new().read(true).open(files, path) {
-        Ok(mut file) => {
-            if is_longer(&file, limit) {
-                return Fetched::TooLong;
-            }
-            contents(alloc, &mut file, limit)
-        }
-        Err(error) => refused(&error),
-    }
+    opened_contents(
+        alloc,
+        OpenOptions::new().read(true).open(files, path),
+        limit,
+    )
 }
 
-/// Whether this is a plain file that the system says to have more than `limit` bytes. Such a file isn't read.
-fn is_longer<F: OpenFile>(file: &F, limit: u64) -> bool {
-    match file.metadata() {
-        Ok(told) => told.is_file() && told.len() > limit,
-        Err(_) => false,
-    }
+/// Writes all these bytes, and nothing else, to a file that was opened for it.
+fn fill<W: Write>(file: &mut W, bytes: &[u8]) -> io::Result<()>
+    ensures { OnOk result (Appends (W.contents file.old) (W.contents file.new) bytes.now) }
+{
+    file.write_all(bytes)
 }
 
 /// Makes the file at a path, or empties it, and writes these bytes.
@@ -109,5 +105,5 @@ fn store<R: Files>(files: &R, name: &[u8], bytes: &[u8]) -> io::Result<()> {
         return Err(Error::from(ErrorKind::InvalidInput));
     };
     let mut file = File::create(files, path)?;
-    file.write_all(bytes)
+    fill(&mut file, bytes)
 }

@@ -437,3 +437,80 @@ fn lists_the_optima_of_many_rows(rt: HostRuntime) -> Result<(), Fail> {
     assert!(rt; right);
     Ok(())
 }
+
+/// A file of twelve variables and nothing else, so that all 4,096 points are optimal.
+const TWELVE: &[u8] = b"Minimize\nobj:\nBinaries\nx0 x1 x2 x3 x4 x5 x6 x7 x8 x9 x10 x11\nEnd\n";
+
+/// The text of its list, which has 143,397 bytes: the points in lexicographic order are the numbers of twelve bits, the
+/// first variable's bit in front.
+fn twelve_list(alloc: Global) -> Result<Vec<u8>, AllocError> {
+    let mut text = Vec::from_slice(alloc, b"status done\noptimum 0\nsolutions 4096\n")?;
+    for point in 0..4_096_u32 {
+        text.extend_from_slice(b"0 :")?;
+        for at in 0..12_u32 {
+            if (point >> (11 - at)) & 1 == 1 {
+                put(&mut text, b" x", at)?;
+                text.extend_from_slice(b" 1")?;
+            }
+        }
+        text.extend_from_slice(b"\n")?;
+    }
+    Ok(text)
+}
+
+/// Whether the run over the file of twelve variables ends with this status and prints this front of the text, over a sink
+/// that takes so many bytes a call and fails at this call.
+fn prints_twelve(
+    alloc: Global,
+    text: &[u8],
+    most: usize,
+    failing: u64,
+    wanted: (Status, usize),
+) -> Result<bool, AllocError>
+    requires { 1 ≤ most }
+{
+    let mut shelf = one_file(alloc, TWELVE, &[])?;
+    let mut sink = MemSink::new(alloc, most, Vec::from_slice(alloc, &[failing])?);
+    let (answer, _) = run_over(alloc, &[b"m.lp"], &mut shelf, &mut sink)?;
+    let printed = sink.bytes();
+    Ok((answer, printed.len()) == wanted && text.starts_with(printed))
+}
+
+#[test]
+fn lists_of_more_than_a_buffer_go_out(rt: HostRuntime) -> Result<(), Fail> {
+    let alloc = rt.alloc();
+    let text = twelve_list(alloc)?;
+    let whole = (Status::Clean, 143_397);
+    let good = prints_twelve(alloc, text.as_slice(), 1_000_000, 0, whole)?;
+    let slow = prints_twelve(alloc, text.as_slice(), 7, 0, whole)?;
+    let late = prints_twelve(
+        alloc,
+        text.as_slice(),
+        65_536,
+        3,
+        (Status::SinkFault, 131_072),
+    )?;
+    assert_eq!(rt; (text.len(), good, slow, late), (143_397, true, true, true));
+    Ok(())
+}
+
+/// Whether a file of one byte above the limit of 2^26 is refused as too long.
+fn refuses_too_long(alloc: Global) -> Result<bool, AllocError> {
+    let file = vec![in alloc; 0u8; 67_108_865]?;
+    let mut files = Vec::new(alloc);
+    files.push((text(alloc, b"m.lp")?, file))?;
+    let mut shelf = MemShelf::new(alloc, files, Vec::new(alloc));
+    let mut sink = MemSink::new(alloc, 1_000, Vec::new(alloc));
+    let answer = run_over(alloc, &[b"m.lp"], &mut shelf, &mut sink)?;
+    Ok(
+        answer == (Status::SomeRefused, 1)
+            && sink.bytes() == b"refused 53 file too long\n".as_slice(),
+    )
+}
+
+#[test]
+fn refuses_files_above_the_limit(rt: HostRuntime) -> Result<(), Fail> {
+    let right = refuses_too_long(rt.alloc())?;
+    assert!(rt; right);
+    Ok(())
+}

@@ -1,5 +1,2 @@
 mod OutputLemmas
-mod ReadyLemmas
 mod RunLemmas
-mod SolveLemmas
-mod StepLemmas

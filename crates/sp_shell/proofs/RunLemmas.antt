@@ -1,35 +1,48 @@
 -- What went out and was noted when a run ends.
-use Rattle.std.specs.Prelude.{ℤ, flat_map, filter, count_by, All, Bool, true, false, IsTrue, Result, Ok, Err}
+use Rattle.std.specs.Prelude.{ℤ, flat_map, map, filter, count_by, slice_index_or, All, Bool, true, false, IsTrue, Result, Ok, Err}
 use Rattle.std.specs.List.{list_all, AllByRecursion}
-use Rattle.std.proofs.Common.{◌≡◌, ℕ, ◌≤◌, List, [], ◌∷◌, ◌++◌, length, Option, None, Some, refl, sym, ap, ◌∙◌, subst, inl, inr, arith}
+use Rattle.std.proofs.Common.{◌≡◌, ℕ, zero, suc, ◌<◌, ◌≤◌, List, [], ◌∷◌, ◌++◌, length, Option, None, Some, refl, sym, ap, ◌∙◌, subst, inl, inr, arith, length-append}
+use Rattle.std.proofs.lemmas.List.{append-nil, length-map}
 use Rattle.std.proofs.lemmas.List.Elements.{All-from_recursion, recursion_from_All}
 use Rattle.std.proofs.lemmas.List.Sums.{length-filter}
 use Rattle.sp_base.specs.Told.{append}
 use Rattle.sp_base.specs.Counts.{RoseBy, raised, raised_by}
-use Rattle.sp_base.specs.Shelf.{Files}
+use Rattle.sp_base.specs.Shelf.{Files, Fetches}
+use Rattle.sp_base.specs.declared.shelves.Fetched.TheVariants as fetched
 use Rattle.sp_base.specs.declared.sinks.SinkEnd.{SinkEnd}
 use Rattle.sp_base.specs.declared.sinks.SinkEnd.TheVariants as sunk
 use Rattle.sp_base.specs.declared.statuses.Status.{Status}
 use Rattle.sp_base.specs.declared.statuses.Status.TheVariants as status
+use Rattle.sp_base.specs.Writing.{Puts}
 use Rattle.sp_model.specs.declared.parts.ModelParts.{ModelParts}
 use Rattle.sp_model.specs.Models.{root_of, Feasible}
-use Rattle.sp_small_lp.specs.Reads.{Reads}
-use Rattle.sp_shell.specs.declared.journals.Entry.{Entry}
-use Rattle.sp_shell.specs.declared.journals.Entry.TheVariants as entry
-use Rattle.sp_shell.specs.declared.journals.FetchNote.{FetchNote}
-use Rattle.sp_shell.specs.declared.journals.FetchNote.TheVariants as note
-use Rattle.sp_shell.specs.declared.journals.RunEnd.{RunEnd}
-use Rattle.sp_shell.specs.declared.journals.RunEnd.TheVariants as end
-use Rattle.sp_shell.specs.declared.preparing.Ready.{Ready}
-use Rattle.sp_shell.specs.declared.wordings.Wording.{Wording}
+use Rattle.sp_small_lp.specs.declared.reading.NamedModel.{NamedModel}
+use Rattle.sp_engine.specs.declared.journals.Entry.{Entry}
+use Rattle.sp_engine.specs.declared.journals.Entry.TheVariants as entry
+use Rattle.sp_engine.specs.declared.journals.FetchNote.{FetchNote}
+use Rattle.sp_engine.specs.declared.journals.FetchNote.TheVariants as note
+use Rattle.sp_engine.specs.declared.journals.RunEnd.{RunEnd}
+use Rattle.sp_engine.specs.declared.journals.RunEnd.TheVariants as end
+use Rattle.sp_engine.specs.declared.reading.ReadEnd.TheVariants as ended
+use Rattle.sp_engine.specs.declared.replies.Refusal.{Refusal}
+use Rattle.sp_engine.specs.declared.replies.Reply.{Reply}
+use Rattle.sp_engine.specs.declared.replies.Reply.TheVariants as reply
+use Rattle.sp_engine.specs.declared.runs.Listing.{Listing}
+use Rattle.sp_engine.specs.LegalRuns.{first_settings}
+use Rattle.sp_engine.specs.Listing.{IsSerial, RepliesAfter, SaysList, after_run}
+use Rattle.sp_engine.specs.Notes.{answer_of, is_answer, is_absence, is_overrun, is_fault, run_notes}
+use Rattle.sp_engine.specs.ReadEnds.{ReadSays, bytes_notes, named_of}
+use Rattle.sp_engine.specs.Reading.{SaysRead, WantsInRead, fetched_more, with_model}
+use Rattle.sp_engine.specs.Replies.{is_refused}
+use Rattle.sp_engine.specs.Runs.{IsListing}
+use Rattle.sp_engine.specs.Views.{Named, View, begun, point_of, read_limit}
 use Rattle.sp_shell.specs.declared.wordings.Wording.TheVariants as wording
-use Rattle.sp_shell.specs.Wording.{spelling}
-use Rattle.sp_base.specs.Writing.{Puts}
-use Rattle.sp_shell.specs.Endings.{status_after, Answers, IsWhole}
-use Rattle.sp_shell.specs.Replies.{done_head, entry_line, solution_line, reply_text, IsPrintable}
-use Rattle.sp_shell.specs.Runs.{AreAnswersOf, IsAnswerOf, is_absence, is_overrun, is_fault, AfterFetch, IsFileRun, IsUsage, IsUnsaid, RunUnsaid, is_answer, Outcome, Refuses, Replies, RunText, run_entries}
-use Rattle.sp_shell.specs.Solving.{EndsWith}
-use Rattle.sp_shell.specs.Ready.{IsReady, NotesAfter, is_own}
+use Rattle.sp_shell.specs.Wording.{refusal_wording, spelling}
+use Rattle.sp_shell.specs.Replies.{done_head, listed_text, reply_text, solution_line}
+use Rattle.sp_shell.specs.Runs.{IsFileRun, IsUsage, OneRun, Outcome, RunText, RunUnsaid, status_by}
+use Rattle.sp_shell.specs.InnerEndings.{status_after, Answers, IsWhole}
+use Rattle.sp_shell.specs.InnerReplies.{AreNoted, IsPrintable, entry_line, note_at, printed_text, serial_line}
+use Rattle.sp_shell.specs.InnerRuns.{IsRead, OwnNotes, is_own}
 
 -- a status that comes with a whole text, and what went out
 pub outcome_of : {k : Bool} (says : List Entry → List ℕ → Status → Type 0) (unsaid : List Entry → Type 0) (entries : List Entry) {text : List ℕ} {s : Status} {old new : Option (List ℕ)} (good : Status)
@@ -50,126 +63,251 @@ outcome_of {k} says unsaid entries {text} {s} {old} {new} good whole said a = su
     by (Err sunk.Fault) h memory = record { text = text; meant = good; said = said; held = h }
     by (Err sunk.NoMemory) h memory = inl (memory refl, record { text = text; meant = good; said = said; held = h })
 
--- the notes of a run are its own
-own_notes : (found : List (List ℤ)) (ended : RunEnd) (nodes : ℕ) → list_all is_own (run_entries found ended nodes) ≡ true
-own_notes [] ended nodes = refl
-own_notes (x ∷ xs) ended nodes = own_notes xs ended nodes
+whole_by : (refused : Bool) → IsWhole (status_by refused)
+whole_by true = tt
+whole_by false = tt
 
-pub ready_notes : {names : List (List ℕ)} {m : ModelParts} {ready : Ready} {rest : List Entry} (first : Entry) (entries : List Entry)
-    → IsReady names m ready rest → entries ≡ first ∷ rest → NotesAfter first entries
-ready_notes {names} {m} {ready} {rest} first entries r e = record {
-  rest = rest;
-  noted = e;
-  own = ap (list_all is_own) r.entries ∙ own_notes r.found ready.end ready.nodes;
-}
+-- The list.
+
+-- the notes of a run are its own
+own_notes : (found : List (List ℤ)) (e : RunEnd) (nodes : ℕ) → list_all is_own (run_notes found e nodes) ≡ true
+own_notes [] e nodes = refl
+own_notes (x ∷ xs) e nodes = own_notes xs e nodes
+
+-- the data after the file was read
+abbrev read_view : Option Files → List ℕ → Named → View
+read_view files bytes named = with_model (fetched_more (begun first_settings files) (length bytes)) named
+
+abbrev named_by : List (List ℕ) → ModelParts → Named
+named_by names m = record { names = names; parts = m }
+
+-- what the command that lists says then
+listing_says : (files : Option Files) (bytes : List ℕ) (names : List (List ℕ)) (m : ModelParts) (l : Listing) (i : IsListing names m l)
+    → SaysList (read_view files bytes (named_by names m)) l.notes.items l.reply (after_run (read_view files bytes (named_by names m)) i.found i.nodes)
+listing_says files bytes names m l i = i.says (read_view files bytes (named_by names m)) refl refl refl refl refl
+
+-- the notes, whatever was read
+pub listing_notes : {names : List (List ℕ)} {m : ModelParts} {l : Listing} (first : Entry) (entries : List Entry) → IsListing names m l → entries ≡ first ∷ l.notes.items → OwnNotes first entries
+listing_notes {names} {m} {l} first entries i e =
+    let s : SaysList (read_view None [] (named_by names m)) l.notes.items l.reply (after_run (read_view None [] (named_by names m)) i.found i.nodes) = listing_says None [] names m l i in
+    record { rest = l.notes.items; noted = e; own = ap (list_all is_own) s.noted ∙ own_notes s.found s.ended s.nodes }
 
 -- each noted point can be printed
-printable_notes : (names : List (List ℕ)) (m : ModelParts) (found : List (List ℤ)) (ended : RunEnd) (nodes : ℕ) → length names ≡ length (root_of m)
-    → AllByRecursion (Feasible m) found → AllByRecursion (IsPrintable names m) (run_entries found ended nodes)
-printable_notes names m [] ended nodes named all = (tt, tt)
-printable_notes names m (x ∷ xs) ended nodes named all = ((all.0.within, all.0.within.long ∙ sym named), printable_notes names m xs ended nodes named all.1)
+printable_notes : (names : List (List ℕ)) (m : ModelParts) (found : List (List ℤ)) (e : RunEnd) (nodes : ℕ) → length names ≡ length (root_of m)
+    → AllByRecursion (Feasible m) found → AllByRecursion (IsPrintable names m) (run_notes found e nodes)
+printable_notes names m [] e nodes named all = (tt, tt)
+printable_notes names m (x ∷ xs) e nodes named all = ((all.0.within, all.0.within.long ∙ sym named), printable_notes names m xs e nodes named all.1)
 
-pub printable : {names : List (List ℕ)} {m : ModelParts} {ready : Ready} {rest : List Entry} (answer : FetchNote) (entries : List Entry)
-    → IsReady names m ready rest → entries ≡ entry.Fetched answer ∷ rest → All (IsPrintable ready.names ready.model) entries
-printable {names} {m} {ready} {rest} answer entries r e =
-    subst (λ ns. All (IsPrintable ns ready.model) entries) (sym r.names_are)
-    (subst (λ p. All (IsPrintable names p) entries) (sym r.model_is)
-    (subst (All (IsPrintable names m)) (sym (e ∙ ap (λ es. entry.Fetched answer ∷ es) r.entries))
-    (All-from_recursion (IsPrintable names m) (entry.Fetched answer ∷ run_entries r.found ready.end ready.nodes)
-    (tt, printable_notes names m r.found ready.end ready.nodes r.named (recursion_from_All (Feasible m) r.found r.legal.feasible)))))
+same_named : {one other : Named} → Some one ≡ Some other → other ≡ one
+same_named e = cc
 
--- the lines of the notes are those of the points
-lines_of_notes : (names : List (List ℕ)) (m : ModelParts) (found : List (List ℤ)) (ended : RunEnd) (nodes : ℕ)
-    → flat_map (entry_line names m) (run_entries found ended nodes) ≡ flat_map (solution_line names m) found
-unfolding entry_line
-lines_of_notes names m [] ended nodes = refl
-lines_of_notes names m (x ∷ xs) ended nodes = ap (λ text. solution_line names m x ++ text) (lines_of_notes names m xs ended nodes)
+same_answer : {one other : FetchNote} → entry.Fetched one ∷ [] ≡ entry.Fetched other ∷ [] → other ≡ one
+same_answer e = cc
 
-lines_of_all : (names : List (List ℕ)) (m : ModelParts) (answer : FetchNote) (found : List (List ℤ)) (ended : RunEnd) (nodes : ℕ)
-    → flat_map (entry_line names m) (entry.Fetched answer ∷ run_entries found ended nodes) ≡ flat_map (solution_line names m) found
-unfolding entry_line
-lines_of_all names m answer found ended nodes = lines_of_notes names m found ended nodes
-
--- the reply is that of the run
-reply_fits : (names : List (List ℕ)) (m : ModelParts) (answer : FetchNote) (best : Option ℤ) (found : List (List ℤ)) (ended : RunEnd) (nodes : ℕ)
-    → EndsWith m ended best found
-    → Replies names m found ended nodes (reply_text names m best (length found) ended nodes (entry.Fetched answer ∷ run_entries found ended nodes))
-unfolding reply_text
-reply_fits names m answer best found end.Done nodes h = record {
-  best = best;
-  optimum = h.optimum;
-  listed = h.listed;
-  text_is = ap (λ text. done_head m.maximize best (length found) ++ text) (lines_of_all names m answer found end.Done nodes);
-}
-reply_fits names m answer best found end.NodeLimit nodes h = refl
-reply_fits names m answer best found end.Optimal nodes h = absurd h
-reply_fits names m answer best found end.Infeasible nodes h = absurd h
-reply_fits names m answer best found end.PopulateLimit nodes h = absurd h
-
--- a run of a model that was read
-pub run_outcome : {k : Bool} {names : List (List ℕ)} {m : ModelParts} {ready : Ready} {rest entries : List Entry} {s : Status} {old new : Option (List ℕ)} (bytes : List ℕ)
-    → Reads bytes names m → IsReady names m ready rest → entries ≡ entry.Fetched (note.Bytes bytes) ∷ rest
-    → Answers k status.Clean s old new (reply_text ready.names ready.model ready.best ready.number ready.end ready.nodes entries) → Outcome k IsFileRun IsUnsaid entries s old new
-run_outcome {k} {names} {m} {ready} {rest} {entries} {s} {old} {new} bytes reads r e a = outcome_of IsFileRun IsUnsaid entries status.Clean tt said a
+pub printable : {names : List (List ℕ)} {m : ModelParts} {l : Listing} (answer : FetchNote) (entries : List Entry)
+    → IsListing names m l → entries ≡ entry.Fetched answer ∷ l.notes.items → All (IsPrintable l.names l.model) entries
+printable {names} {m} {l} answer entries i e =
+    subst (λ ns. All (IsPrintable ns l.model) entries) (sym i.names_are)
+    (subst (λ p. All (IsPrintable names p) entries) (sym i.model_is)
+    (subst (All (IsPrintable names m)) (sym (e ∙ ap (λ es. entry.Fetched answer ∷ es) s.noted))
+    (All-from_recursion (IsPrintable names m) (entry.Fetched answer ∷ run_notes s.found s.ended s.nodes)
+    (tt, printable_notes names m s.found s.ended s.nodes i.long (recursion_from_All (Feasible m) s.found feasible)))))
   where
-    whole : reply_text ready.names ready.model ready.best ready.number ready.end ready.nodes entries
-        ≡ reply_text names m ready.best (length r.found) ready.end ready.nodes (entry.Fetched (note.Bytes bytes) ∷ run_entries r.found ready.end ready.nodes)
-    whole = ap (λ ns. reply_text ns ready.model ready.best ready.number ready.end ready.nodes entries) r.names_are
-        ∙ ap (λ p. reply_text names p ready.best ready.number ready.end ready.nodes entries) r.model_is
-        ∙ ap (λ k. reply_text names m ready.best k ready.end ready.nodes entries) r.number
-        ∙ ap (reply_text names m ready.best (length r.found) ready.end ready.nodes) (e ∙ ap (λ es. entry.Fetched (note.Bytes bytes) ∷ es) r.entries)
+    s : SaysList (read_view None [] (named_by names m)) l.notes.items l.reply (after_run (read_view None [] (named_by names m)) i.found i.nodes)
+    s = listing_says None [] names m l i
 
-    said : IsFileRun entries (reply_text ready.names ready.model ready.best ready.number ready.end ready.nodes entries) status.Clean
-    said = record {
-      answer = note.Bytes bytes;
-      rest = rest;
-      noted = e;
-      rest_is = inr (record {
-        names = names;
-        m = m;
-        reads = reads;
-        found = r.found;
-        ended = ready.end;
-        nodes = ready.nodes;
-        entries = r.entries;
-        reply = subst (Replies names m r.found ready.end ready.nodes) (sym whole) (reply_fits names m (note.Bytes bytes) ready.best r.found ready.end ready.nodes r.answer);
-        legal = r.legal;
-        status_is = refl;
-      });
-    }
+    feasible : All (Feasible m) s.found
+    feasible = subst (λ (n : Named). All (Feasible n.parts) s.found) (same_named s.model_is) s.legal.feasible
 
--- the same for the notes as they stand in the end
-pub run_ends : {k : Bool} {names : List (List ℕ)} {m : ModelParts} {ready : Ready} {rest before entries : List Entry} {s : Status} {old new : Option (List ℕ)} (bytes : List ℕ)
-    → Reads bytes names m → IsReady names m ready rest → entries ≡ before → before ≡ entry.Fetched (note.Bytes bytes) ∷ rest
-    → Answers k status.Clean s old new (reply_text ready.names ready.model ready.best ready.number ready.end ready.nodes before) → Outcome k IsFileRun IsUnsaid entries s old new
-run_ends {k = k} {entries = entries} {s = s} {old = old} {new = new} bytes reads r same e a = subst (λ es. Outcome k IsFileRun IsUnsaid es s old new) (sym same) (run_outcome bytes reads r e a)
+-- each serial of the reply is the place of a note
+places : (found : List (List ℤ)) (count : ℕ) (serials : List ℕ) → length found < count → AllByRecursion (IsSerial (length found)) serials → AllByRecursion (λ serial. serial < count) serials
+places found count [] more all = tt
+places found count (n ∷ ns) more all = (omega (arith, more, all.0.last), places found count ns more all.1)
 
--- a file that is refused
-pub refusal_outcome : {k : Bool} {entries : List Entry} {s : Status} {old new : Option (List ℕ)} (answer : FetchNote) (why : Wording)
-    → AfterFetch answer [] (spelling why) status.SomeRefused → entries ≡ entry.Fetched answer ∷ [] → Answers k status.SomeRefused s old new (spelling why)
-    → Outcome k IsFileRun IsUnsaid entries s old new
-refusal_outcome {k} {entries} answer why f e a = outcome_of IsFileRun IsUnsaid entries status.SomeRefused tt (record { answer = answer; rest = []; noted = e; rest_is = f }) a
+noted_reply : (e : RunEnd) (named : Named) (nodes count : ℕ) (after : View) (r : Reply) → RepliesAfter e named nodes after r → length after.found < count → AreNoted count r
+noted_reply end.Done named nodes count after r h more =
+    subst (AreNoted count) (sym h.reply_is)
+    (All-from_recursion (λ serial. serial < count) h.serials (places after.found count h.serials more (recursion_from_All (IsSerial (length after.found)) h.serials h.known)))
+noted_reply end.NodeLimit named nodes count after r h more = subst (AreNoted count) (sym h) tt
+noted_reply end.Optimal named nodes count after r h more = absurd h
+noted_reply end.Infeasible named nodes count after r h more = absurd h
+noted_reply end.PopulateLimit named nodes count after r h more = absurd h
 
-pub refuses : (why : Wording) → Refuses why [] (spelling why) status.SomeRefused
-refuses why = record { nothing_more = refl; line = refl; status_is = refl }
+notes_long : (answer : FetchNote) (found : List (List ℤ)) (e : RunEnd) (nodes : ℕ) → length found < length (entry.Fetched answer ∷ run_notes found e nodes)
+notes_long answer [] e nodes = omega arith
+notes_long answer (x ∷ xs) e nodes = let h : length xs < length (entry.Fetched answer ∷ run_notes xs e nodes) = notes_long answer xs e nodes in omega (arith, h)
 
-pub syntax_outcome : {k : Bool} {entries : List Entry} {s : Status} {old new : Option (List ℕ)} (bytes : List ℕ) → ((names : List (List ℕ)) (m : ModelParts) → ¬ Reads bytes names m)
-    → entries ≡ entry.Fetched (note.Bytes bytes) ∷ [] → Answers k status.SomeRefused s old new (spelling wording.Syntax) → Outcome k IsFileRun IsUnsaid entries s old new
-syntax_outcome bytes unread e a = refusal_outcome (note.Bytes bytes) wording.Syntax (inl (record { unread = unread; refused = refuses wording.Syntax })) e a
+pub noted : {names : List (List ℕ)} {m : ModelParts} {l : Listing} (answer : FetchNote) (entries : List Entry)
+    → IsListing names m l → entries ≡ entry.Fetched answer ∷ l.notes.items → AreNoted (length entries) l.reply
+noted {names} {m} {l} answer entries i e =
+    noted_reply s.ended s.named s.nodes (length entries) _ l.reply s.reply_is
+    (subst (λ es. length (after_run (read_view None [] (named_by names m)) i.found i.nodes).found < length es) (sym (e ∙ ap (λ es. entry.Fetched answer ∷ es) s.noted))
+    (subst (λ xs. length xs < length (entry.Fetched answer ∷ run_notes s.found s.ended s.nodes)) (sym found) (notes_long answer s.found s.ended s.nodes)))
+  where
+    s : SaysList (read_view None [] (named_by names m)) l.notes.items l.reply (after_run (read_view None [] (named_by names m)) i.found i.nodes)
+    s = listing_says None [] names m l i
 
--- the notes after the first one
-pub first_noted : {empty mid whole : List Entry} (rest : List Entry) (first : Entry) → whole ≡ mid ++ rest → mid ≡ empty ++ first ∷ [] → empty ≡ [] → whole ≡ first ∷ rest
-first_noted rest first e f none = e ∙ ap (λ es. es ++ rest) (f ∙ ap (λ es. es ++ first ∷ []) none)
+    found : (after_run (read_view None [] (named_by names m)) i.found i.nodes).found ≡ s.found
+    found = ap (λ (v : View). v.found) s.after_is
 
--- the run's own notes are no absences, no overruns and no faults, and claim nothing of the files
-own_true : (files : Option Files) (name : List ℕ) (rest : List Entry) → list_all is_own rest ≡ true → AllByRecursion (IsAnswerOf files name) rest
-own_true files name [] own = tt
-own_true files name (entry.Found x ∷ rest) own = (tt, own_true files name rest own)
-own_true files name (entry.Ended ended nodes ∷ rest) own = (tt, own_true files name rest own)
-own_true files name (entry.Fetched answer ∷ rest) own = absurd (let h : false ≡ true = own in cc)
-own_true files name (entry.Stored answer ∷ rest) own = absurd (let h : false ≡ true = own in cc)
+-- the note of a serial is that of its point
+note_of_point : (found : List (List ℤ)) (e : RunEnd) (nodes place : ℕ) → place < length found
+    → slice_index_or (run_notes found e nodes) place (entry.Ended end.Done 0) ≡ entry.Found (slice_index_or found place [])
+note_of_point [] e nodes place h = absurd (omega arith)
+note_of_point (x ∷ xs) e nodes zero h = refl
+note_of_point (x ∷ xs) e nodes (suc place) h = note_of_point xs e nodes place (omega arith)
 
-own_none : (test : Entry → Bool) → ((x : List ℤ) → test (entry.Found x) ≡ false) → ((ended : RunEnd) (nodes : ℕ) → test (entry.Ended ended nodes) ≡ false)
+line_of_serial : (names : List (List ℕ)) (m : ModelParts) (answer : FetchNote) (found : List (List ℤ)) (e : RunEnd) (nodes serial : ℕ) → IsSerial (length found) serial
+    → serial_line names m (entry.Fetched answer ∷ run_notes found e nodes) serial ≡ solution_line names m (point_of found serial)
+unfolding serial_line entry_line
+line_of_serial names m answer found e nodes zero h = absurd (let low : 1 ≤ 0 = h.first in omega (arith, low))
+line_of_serial names m answer found e nodes (suc place) h =
+    let below : place < length found = (let high : suc place ≤ length found = h.last in omega (arith, high)) in
+    ap (entry_line names m) (note_of_point found e nodes place below)
+
+lines_of_serials : (names : List (List ℕ)) (m : ModelParts) (answer : FetchNote) (found : List (List ℤ)) (e : RunEnd) (nodes : ℕ) (serials : List ℕ)
+    → AllByRecursion (IsSerial (length found)) serials
+    → flat_map (serial_line names m (entry.Fetched answer ∷ run_notes found e nodes)) serials ≡ flat_map (solution_line names m) (map (point_of found) serials)
+lines_of_serials names m answer found e nodes [] all = refl
+lines_of_serials names m answer found e nodes (n ∷ ns) all =
+    ap (λ text. text ++ flat_map (serial_line names m (entry.Fetched answer ∷ run_notes found e nodes)) ns) (line_of_serial names m answer found e nodes n all.0)
+    ∙ ap (λ text. solution_line names m (point_of found n) ++ text) (lines_of_serials names m answer found e nodes ns all.1)
+
+-- what is printed is the text of the reply
+text_fits : (named : Named) (answer : FetchNote) (found : List (List ℤ)) (e : RunEnd) (nodes : ℕ) (after : View) (r : Reply)
+    → after.model ≡ Some named → after.found ≡ found → RepliesAfter e named nodes after r
+    → printed_text named.names named.parts (entry.Fetched answer ∷ run_notes found e nodes) r ≡ reply_text after r
+unfolding printed_text
+text_fits named answer found end.Done nodes after r model same h =
+    ap (printed_text named.names named.parts (entry.Fetched answer ∷ run_notes found end.Done nodes)) h.reply_is
+    ∙ ap (λ text. done_head named.parts.maximize h.optimum (length h.serials) ++ text)
+    (lines_of_serials named.names named.parts answer found end.Done nodes h.serials
+    (subst (λ xs. AllByRecursion (IsSerial (length xs)) h.serials) same (recursion_from_All (IsSerial (length after.found)) h.serials h.known)))
+    ∙ ap (λ n. done_head named.parts.maximize h.optimum n ++ flat_map (solution_line named.names named.parts) (map (point_of found) h.serials)) (sym (length-map h.serials (point_of found)))
+    ∙ sym (ap (reply_text after) h.reply_is ∙ ap (λ o. listed_text o after.found h.optimum h.serials) model ∙ ap (λ xs. listed_text (Some named) xs h.optimum h.serials) same)
+text_fits named answer found end.NodeLimit nodes after r model same h = ap (printed_text named.names named.parts (entry.Fetched answer ∷ run_notes found end.NodeLimit nodes)) h ∙ sym (ap (reply_text after) h)
+text_fits named answer found end.Optimal nodes after r model same h = absurd h
+text_fits named answer found end.Infeasible nodes after r model same h = absurd h
+text_fits named answer found end.PopulateLimit nodes after r model same h = absurd h
+
+-- The run of one file.
+
+-- the file was read as this model, and it was listed
+list_said : {files : Option Files} {name bytes : List ℕ} {named : NamedModel} {l : Listing} {entries : List Entry} (i : IsListing named.names named.parts l)
+    → IsRead files name bytes named → entries ≡ entry.Fetched (note.Bytes bytes) ∷ l.notes.items
+    → IsFileRun files name entries (printed_text l.names l.model entries l.reply) (status_by (is_refused l.reply))
+list_said {files} {name} {bytes} {named} {l} {entries} i read e = record {
+  refused = is_refused l.reply;
+  run = record {
+    notes = entry.Fetched (note.Bytes bytes) ∷ [];
+    rest = l.notes.items;
+    divided = e;
+    read = reply.Read (length named.names) (length named.parts.rows);
+    after = with_model (fetched_more (begun first_settings files) (length bytes)) (named_of named);
+    says = read.says;
+    then_is = record {
+      listed = l.reply;
+      last = after_run (with_model (fetched_more (begun first_settings files) (length bytes)) (named_of named)) i.found i.nodes;
+      says = s;
+      text_is = text;
+      refused_is = refl;
+    };
+  };
+  status_is = refl;
+}
+  where
+    s : SaysList (with_model (fetched_more (begun first_settings files) (length bytes)) (named_of named)) l.notes.items l.reply
+        (after_run (with_model (fetched_more (begun first_settings files) (length bytes)) (named_of named)) i.found i.nodes)
+    s = i.says (with_model (fetched_more (begun first_settings files) (length bytes)) (named_of named)) refl refl refl refl refl
+
+    same : s.named ≡ named_of named
+    same = same_named s.model_is
+
+    found : (after_run (with_model (fetched_more (begun first_settings files) (length bytes)) (named_of named)) i.found i.nodes).found ≡ s.found
+    found = ap (λ (v : View). v.found) s.after_is
+
+    text : printed_text l.names l.model entries l.reply
+        ≡ reply_text (after_run (with_model (fetched_more (begun first_settings files) (length bytes)) (named_of named)) i.found i.nodes) l.reply
+    text =
+        ap (λ ns. printed_text ns l.model entries l.reply) i.names_are ∙ ap (λ p. printed_text named.names p entries l.reply) i.model_is
+        ∙ ap (λ es. printed_text named.names named.parts es l.reply) (e ∙ ap (λ es. entry.Fetched (note.Bytes bytes) ∷ es) s.noted)
+        ∙ ap (λ (n : Named). printed_text n.names n.parts (entry.Fetched (note.Bytes bytes) ∷ run_notes s.found s.ended s.nodes) l.reply) (sym same)
+        ∙ text_fits s.named (note.Bytes bytes) s.found s.ended s.nodes
+        (after_run (with_model (fetched_more (begun first_settings files) (length bytes)) (named_of named)) i.found i.nodes) l.reply s.model_is found s.reply_is
+
+pub list_outcome : {k : Bool} {bytes : List ℕ} {named : NamedModel} {l : Listing} {before entries : List Entry} {s : Status} {old new : Option (List ℕ)} (i : IsListing named.names named.parts l)
+    → before ≡ entry.Fetched (note.Bytes bytes) ∷ l.notes.items → entries ≡ before
+    → Answers k (status_by (is_refused l.reply)) s old new (printed_text l.names l.model before l.reply)
+    → (files : Option Files) (name : List ℕ) → IsRead files name bytes named
+    → Outcome k (IsFileRun files name) (WantsInRead (begun first_settings files) name) entries s old new
+list_outcome {k} {bytes} {named} {l} {before} {entries} {s} {old} {new} i e same a files name read =
+    subst (λ es. Outcome k (IsFileRun files name) (WantsInRead (begun first_settings files) name) es s old new) (sym same)
+    (outcome_of (IsFileRun files name) (WantsInRead (begun first_settings files) name) before (status_by (is_refused l.reply)) (whole_by (is_refused l.reply)) (list_said i read e) a)
+
+-- memory was wanting before any text went out
+pub wanting : (k : Bool) (says : List Entry → List ℕ → Status → Type 0) (unsaid : List Entry → Type 0) {entries : List Entry} {s : Status} {old new : Option (List ℕ)}
+    → s ≡ status.NoMemory → new ≡ old → unsaid entries → Outcome k says unsaid entries s old new
+wanting k says unsaid {entries} {s} {old} {new} is held noted = subst (λ t. Outcome k says unsaid entries t old new) (sym is) (inr (record { held = held; noted = noted }))
+
+wants_list : {files : Option Files} {name bytes : List ℕ} {named : NamedModel} {entries : List Entry} → IsRead files name bytes named → entries ≡ entry.Fetched (note.Bytes bytes) ∷ []
+    → WantsInRead (begun first_settings files) name entries
+wants_list {files} {name} {bytes} {named} {entries} read e = record { noted = inr (bytes, e, told) }
+  where
+    s : SaysRead (begun first_settings files) name (entry.Fetched (note.Bytes bytes) ∷ []) (reply.Read (length named.names) (length named.parts.rows))
+        (with_model (fetched_more (begun first_settings files) (length bytes)) (named_of named))
+    s = read.says
+
+    same : s.answer ≡ note.Bytes bytes
+    same = same_answer s.noted
+
+    told : Fetches (fetched.Bytes bytes) (begun first_settings files).files name (read_limit (begun first_settings files))
+    told = subst (λ a. Fetches (answer_of a) (begun first_settings files).files name (read_limit (begun first_settings files))) same s.told
+
+pub wanting_list : (k : Bool) {bytes : List ℕ} {named : NamedModel} {entries : List Entry} {s : Status} {old new : Option (List ℕ)}
+    → s ≡ status.NoMemory → new ≡ old → entries ≡ entry.Fetched (note.Bytes bytes) ∷ []
+    → (files : Option Files) (name : List ℕ) → IsRead files name bytes named
+    → Outcome k (IsFileRun files name) (WantsInRead (begun first_settings files) name) entries s old new
+wanting_list k is held e files name read = wanting k (IsFileRun files name) (WantsInRead (begun first_settings files) name) is held (wants_list read e)
+
+-- a refused read
+refused_said : {files : Option Files} {name : List ℕ} {notes entries : List Entry} (why : Refusal) {after : View} → SaysRead (begun first_settings files) name notes (reply.Refused why) after → entries ≡ notes
+    → IsFileRun files name entries (spelling (refusal_wording why)) status.SomeRefused
+refused_said {files} {name} {notes} {entries} why {after} says e = record {
+  refused = true;
+  run = record {
+    notes = notes;
+    rest = [];
+    divided = e ∙ sym (append-nil notes);
+    read = reply.Refused why;
+    after = after;
+    says = says;
+    then_is = record { nothing_more = refl; text_is = refl; refused_is = refl };
+  };
+  status_is = refl;
+}
+
+read_refused : (files : Option Files) (name : List ℕ) (entries : List Entry) (answer : FetchNote) (why : Refusal) → ReadSays (begun first_settings files) name (ended.Refused answer why)
+    → entries ≡ entry.Fetched answer ∷ [] → IsFileRun files name entries (spelling (refusal_wording why)) status.SomeRefused
+read_refused files name entries (note.Bytes bytes) why says e = refused_said why says e
+read_refused files name entries note.Absent why says e = refused_said why says e
+read_refused files name entries note.TooLong why says e = refused_said why says e
+read_refused files name entries note.Failed why says e = refused_said why says e
+
+pub refusal_outcome : {k : Bool} {entries : List Entry} {s : Status} {old new : Option (List ℕ)} (files : Option Files) (name : List ℕ) (answer : FetchNote) (why : Refusal)
+    → ReadSays (begun first_settings files) name (ended.Refused answer why) → entries ≡ entry.Fetched answer ∷ [] → Answers k status.SomeRefused s old new (spelling (refusal_wording why))
+    → Outcome k (IsFileRun files name) (WantsInRead (begun first_settings files) name) entries s old new
+refusal_outcome {entries = entries} files name answer why says e a =
+    outcome_of (IsFileRun files name) (WantsInRead (begun first_settings files) name) entries status.SomeRefused tt (read_refused files name entries answer why says e) a
+
+pub unread_outcome : (k : Bool) {entries : List Entry} {s : Status} {old new : Option (List ℕ)} (files : Option Files) (name : List ℕ) (bytes : Option (List ℕ))
+    → ReadSays (begun first_settings files) name (ended.NoMemory bytes) → entries ≡ bytes_notes bytes → s ≡ status.NoMemory → new ≡ old
+    → Outcome k (IsFileRun files name) (WantsInRead (begun first_settings files) name) entries s old new
+unread_outcome k files name bytes says e is held =
+    wanting k (IsFileRun files name) (WantsInRead (begun first_settings files) name) is held (subst (WantsInRead (begun first_settings files) name) (sym e) says)
+
+-- The counts.
+
+own_none : (test : Entry → Bool) → ((x : List ℤ) → test (entry.Found x) ≡ false) → ((e : RunEnd) (nodes : ℕ) → test (entry.Ended e nodes) ≡ false)
     → (rest : List Entry) → list_all is_own rest ≡ true → filter test rest ≡ []
 own_none test f e [] own = refl
 own_none test f e (entry.Found x ∷ rest) own = rw (f x) (own_none test f e rest own)
@@ -177,35 +315,42 @@ own_none test f e (entry.Ended ended nodes ∷ rest) own = rw (e ended nodes) (o
 own_none test f e (entry.Fetched answer ∷ rest) own = absurd (let h : false ≡ true = own in cc)
 own_none test f e (entry.Stored answer ∷ rest) own = absurd (let h : false ≡ true = own in cc)
 
-pub told_notes : (files : Option Files) (name : List ℕ) {answer : FetchNote} {entries : List Entry} → NotesAfter (entry.Fetched answer) entries
-    → IsAnswerOf files name (entry.Fetched answer) → AreAnswersOf files (Some name) entries
-told_notes files name {answer} {entries} n h = subst (AllByRecursion (IsAnswerOf files name)) (sym n.noted) (h, own_true files name n.rest n.own)
-
--- no note passes the test, so the count owes nothing
-no_note : (test : Entry → Bool) (entries : List Entry) {before now : ℕ} → filter test entries ≡ [] → before ≤ now → RoseBy (count_by test entries) before now
-no_note test entries {before} {now} none h =
-    let zero_notes : count_by test entries ≡ 0 = sym (length-filter test entries) ∙ ap length none in
-    subst (λ n. RoseBy n before now) (sym zero_notes) (omega arith)
-
-pub no_absence : {bytes : List ℕ} {entries : List Entry} {before now : ℕ} → NotesAfter (entry.Fetched (note.Bytes bytes)) entries → before ≤ now → RoseBy (count_by is_absence entries) before now
-no_absence {entries = entries} n h = no_note is_absence entries (ap (filter is_absence) n.noted ∙ own_none is_absence (λ x. refl) (λ ended nodes. refl) n.rest n.own) h
-
-pub no_overrun : {bytes : List ℕ} {entries : List Entry} {before now : ℕ} → NotesAfter (entry.Fetched (note.Bytes bytes)) entries → before ≤ now → RoseBy (count_by is_overrun entries) before now
-no_overrun {entries = entries} n h = no_note is_overrun entries (ap (filter is_overrun) n.noted ∙ own_none is_overrun (λ x. refl) (λ ended nodes. refl) n.rest n.own) h
-
-pub no_fault : {bytes : List ℕ} {entries : List Entry} {before now : ℕ} → NotesAfter (entry.Fetched (note.Bytes bytes)) entries → before ≤ now → RoseBy (count_by is_fault entries) before now
-no_fault {entries = entries} n h = no_note is_fault entries (ap (filter is_fault) n.noted ∙ own_none is_fault (λ x. refl) (λ ended nodes. refl) n.rest n.own) h
-
 -- one note is the shelf's answer, and the run's own are none
-pub one_answer : {bytes : List ℕ} {entries : List Entry} (before now : ℕ) → NotesAfter (entry.Fetched (note.Bytes bytes)) entries → now ≡ raised before → now ≡ raised_by (count_by is_answer entries) before
+pub one_answer : {bytes : List ℕ} {entries : List Entry} (before now : ℕ) → OwnNotes (entry.Fetched (note.Bytes bytes)) entries → now ≡ raised before → now ≡ raised_by (count_by is_answer entries) before
 one_answer {bytes} {entries} before now n h =
     let one : count_by is_answer entries ≡ 1 =
     sym (length-filter is_answer entries)
-    ∙ ap length (ap (filter is_answer) n.noted ∙ ap (λ es. entry.Fetched (note.Bytes bytes) ∷ es) (own_none is_answer (λ x. refl) (λ ended nodes. refl) n.rest n.own)) in
+    ∙ ap length (ap (filter is_answer) n.noted ∙ ap (λ es. entry.Fetched (note.Bytes bytes) ∷ es) (own_none is_answer (λ x. refl) (λ e nodes. refl) n.rest n.own)) in
     subst (λ k. now ≡ raised_by k before) (sym one) h
 
--- words that are no reading
-pub usage_outcome : {k : Bool} (file : Option (List ℕ)) (entries : List Entry) {s : Status} {old new : Option (List ℕ)} → file ≡ None → entries ≡ []
-    → Answers k status.Usage s old new (spelling wording.Usage) → Outcome k (RunText file) (RunUnsaid file) entries s old new
-usage_outcome {k} file entries {s} {old} {new} none e a =
-    subst (λ f. Outcome k (RunText f) (RunUnsaid f) entries s old new) (sym none) (outcome_of IsUsage (λ es. ⊥) entries status.Usage tt (record { nothing_noted = e; line = refl; status_is = refl }) a)
+-- no note passes the test, so the count owes nothing
+no_note : (test : Entry → Bool) (entries : List Entry) (before now : ℕ) → filter test entries ≡ [] → RoseBy 0 before now → RoseBy (count_by test entries) before now
+no_note test entries before now none h =
+    let zero_notes : count_by test entries ≡ 0 = sym (length-filter test entries) ∙ ap length none in
+    subst (λ n. RoseBy n before now) (sym zero_notes) h
+
+pub no_absence : {bytes : List ℕ} {entries : List Entry} (before now : ℕ) → OwnNotes (entry.Fetched (note.Bytes bytes)) entries → RoseBy 0 before now → RoseBy (count_by is_absence entries) before now
+no_absence {entries = entries} before now n h = no_note is_absence entries before now (ap (filter is_absence) n.noted ∙ own_none is_absence (λ x. refl) (λ e nodes. refl) n.rest n.own) h
+
+pub no_overrun : {bytes : List ℕ} {entries : List Entry} (before now : ℕ) → OwnNotes (entry.Fetched (note.Bytes bytes)) entries → RoseBy 0 before now → RoseBy (count_by is_overrun entries) before now
+no_overrun {entries = entries} before now n h = no_note is_overrun entries before now (ap (filter is_overrun) n.noted ∙ own_none is_overrun (λ x. refl) (λ e nodes. refl) n.rest n.own) h
+
+pub no_fault : {bytes : List ℕ} {entries : List Entry} (before now : ℕ) → OwnNotes (entry.Fetched (note.Bytes bytes)) entries → RoseBy 0 before now → RoseBy (count_by is_fault entries) before now
+no_fault {entries = entries} before now n h = no_note is_fault entries before now (ap (filter is_fault) n.noted ∙ own_none is_fault (λ x. refl) (λ e nodes. refl) n.rest n.own) h
+
+-- The notes and the words.
+
+pub first_noted : {empty mid whole : List Entry} (rest : List Entry) (first : Entry) → whole ≡ mid ++ rest → mid ≡ empty ++ first ∷ [] → empty ≡ [] → whole ≡ first ∷ rest
+first_noted rest first e f none = e ∙ ap (λ es. es ++ rest) (f ∙ ap (λ es. es ++ first ∷ []) none)
+
+pub usage_outcome : {k : Bool} (files : Option Files) (file : Option (List ℕ)) (entries : List Entry) {s : Status} {old new : Option (List ℕ)} → file ≡ None → entries ≡ []
+    → Answers k status.Usage s old new (spelling wording.Usage) → Outcome k (RunText files file) (RunUnsaid files file) entries s old new
+usage_outcome {k} files file entries {s} {old} {new} none e a =
+    subst (λ f. Outcome k (RunText files f) (RunUnsaid files f) entries s old new) (sym none) (outcome_of IsUsage (λ es. ⊥) entries status.Usage tt (record { nothing_noted = e; line = refl; status_is = refl }) a)
+
+-- there was no room for the shelf's answer
+pub no_room_outcome : (k : Bool) (files : Option Files) (file : Option (List ℕ)) (name : List ℕ) (entries : List Entry) (s : Status) (old : Option (List ℕ))
+    → file ≡ Some name → entries ≡ [] → s ≡ status.NoMemory → Outcome k (RunText files file) (RunUnsaid files file) entries s old old
+no_room_outcome k files file name entries s old some e is =
+    subst (λ f. Outcome k (RunText files f) (RunUnsaid files f) entries s old old) (sym some)
+    (wanting k (RunText files (Some name)) (RunUnsaid files (Some name)) is refl (record { noted = inl e }))

@@ -1,7 +1,6 @@
-pub mod Endings
-pub mod Ready
+pub mod Wording
 pub mod Replies
 pub mod Runs
-pub mod Solving
-pub mod Walk
-pub mod Wording
+pub mod InnerReplies
+pub mod InnerEndings
+pub mod InnerRuns

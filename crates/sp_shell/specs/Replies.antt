@@ -1,16 +1,14 @@
 -- The text of the replies.
-use Rattle.std.specs.Prelude.{◌≡◌, ℕ, Bool, cond, List, [], ◌∷◌, ◌++◌, length, flat_map, Option, None, Some, ℤ, pos, neg_ℤ}
+use Rattle.std.specs.Prelude.{◌≡◌, ℕ, Bool, cond, List, [], ◌∷◌, ◌++◌, length, map, flat_map, Option, None, Some, ℤ, pos, neg_ℤ}
 use Rattle.std.specs.Ordering.{int_eq}
 use Rattle.std.specs.Fmt.{decimal, signed_decimal}
 use Rattle.sp_model.specs.declared.parts.ModelParts.{ModelParts}
-use Rattle.sp_model.specs.Boxes.{IsWithin}
-use Rattle.sp_model.specs.Models.{objective, root_of}
-use Rattle.sp_shell.specs.declared.journals.Entry.{Entry}
-use Rattle.sp_shell.specs.declared.journals.Entry.TheVariants as entry
-use Rattle.sp_shell.specs.declared.journals.RunEnd.{RunEnd}
-use Rattle.sp_shell.specs.declared.journals.RunEnd.TheVariants as end
+use Rattle.sp_model.specs.Models.{objective}
+use Rattle.sp_engine.specs.declared.replies.Reply.{Reply}
+use Rattle.sp_engine.specs.declared.replies.Reply.TheVariants as reply
+use Rattle.sp_engine.specs.Views.{Named, View, point_of}
 use Rattle.sp_shell.specs.declared.wordings.Wording.TheVariants as wording
-use Rattle.sp_shell.specs.Wording.{spelling}
+use Rattle.sp_shell.specs.Wording.{refusal_wording, spelling}
 
 -- an objective as the user reads it: negated back where the user maximises. The models of the small grammar have scale 0,
 -- so the whole number is what is printed.
@@ -46,32 +44,27 @@ abbrev pub done_head : Bool → Option ℤ → ℕ → List ℕ
 done_head maximize best number =
     spelling wording.StatusDone ++ optimum_line maximize best ++ (spelling wording.Solutions ++ decimal number ++ spelling wording.LineEnd)
 
--- the reply of a run that found every listed point
-abbrev pub done_text : List (List ℕ) → ModelParts → Option ℤ → List (List ℤ) → List ℕ
-done_text names m best xs = done_head m.maximize best (length xs) ++ flat_map (solution_line names m) xs
+-- the reply of a complete list of these points
+abbrev pub done_text : Named → Option ℤ → List (List ℤ) → List ℕ
+done_text named best xs = done_head named.parts.maximize best (length xs) ++ flat_map (solution_line named.names named.parts) xs
 
 -- the reply of a run that the node limit stopped
 unfoldable pub stopped_text : ℕ → List ℕ
 stopped_text nodes = spelling wording.StatusNodeLimit ++ spelling wording.Nodes ++ decimal nodes ++ spelling wording.LineEnd
 
--- the line of a noted point, and nothing for the other notes
-unfoldable pub entry_line : List (List ℕ) → ModelParts → Entry → List ℕ
-entry_line names m (entry.Found x) = solution_line names m x
-entry_line names m (entry.Fetched answer) = []
-entry_line names m (entry.Stored answer) = []
-entry_line names m (entry.Ended ended nodes) = []
+-- the reply of an accepted read
+abbrev pub read_text : ℕ → ℕ → List ℕ
+read_text variables rows =
+    spelling wording.ReadVariables ++ decimal variables ++ (spelling wording.Rows ++ decimal rows ++ spelling wording.LineEnd)
 
--- a noted point has a value for each name, within the bounds
-abbrev pub IsPrintable : List (List ℕ) → ModelParts → Entry → Type 0
-IsPrintable names m (entry.Found x) = IsWithin (root_of m) x × (length x ≡ length names)
-IsPrintable names m (entry.Fetched answer) = Unit {0}
-IsPrintable names m (entry.Stored answer) = Unit {0}
-IsPrintable names m (entry.Ended ended nodes) = Unit {0}
+-- the reply that lists these serials; without a model there is none
+abbrev pub listed_text : Option Named → List (List ℤ) → Option ℤ → List ℕ → List ℕ
+listed_text None found best serials = []
+listed_text (Some named) found best serials = done_text named best (map (point_of found) serials)
 
--- the reply to a run that ended so, from what was noted; a run of all points ends in no other way
-unfoldable pub reply_text : List (List ℕ) → ModelParts → Option ℤ → ℕ → RunEnd → ℕ → List Entry → List ℕ
-reply_text names m best number end.Done nodes entries = done_head m.maximize best number ++ flat_map (entry_line names m) entries
-reply_text names m best number end.NodeLimit nodes entries = stopped_text nodes
-reply_text names m best number end.Optimal nodes entries = []
-reply_text names m best number end.Infeasible nodes entries = []
-reply_text names m best number end.PopulateLimit nodes entries = []
+-- the text of a reply, over the data after its command
+abbrev pub reply_text : View → Reply → List ℕ
+reply_text after (reply.Read variables rows) = read_text variables rows
+reply_text after (reply.Listed optimum serials) = listed_text after.model after.found optimum serials
+reply_text after (reply.Stopped nodes) = stopped_text nodes
+reply_text after (reply.Refused why) = spelling (refusal_wording why)

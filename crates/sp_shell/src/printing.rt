@@ -2,7 +2,7 @@
 ghost use Rattle.std.specs.Prelude.{◌≡◌, ◌≤◌, ◌^◌, ◌++◌, length, IfSome, unsigned_abs};
 ghost use Rattle.std.specs.Fmt.{decimal, signed_decimal};
 ghost use Rattle.sp_base.specs.Writing.{Writes};
-ghost use Rattle.sp_shell.specs.Replies.{done_head, in_user_direction, named_value, named_values, optimum_line, point_line, stopped_text};
+ghost use Rattle.sp_shell.specs.Replies.{done_head, in_user_direction, named_value, named_values, optimum_line, point_line, read_text, stopped_text};
 ghost use Rattle.sp_shell.specs.Wording.{spelling};
 
 use crate::wordings::{Wording, bytes_of};
@@ -208,4 +208,40 @@ pub fn print_head<K: Sink>(
         Err(end) => Err(end),
         Ok(()) => print_number(sink, number),
     }
+}
+
+/// Prints the reply of an accepted read.
+pub fn print_read<K: Sink>(sink: &mut K, variables: usize, rows: usize) -> Result<(), SinkEnd>
+    ensures written { Writes K.Sink result sink.old sink.new (read_text variables rows) }
+{
+    texts_join();
+    match print_variables(sink, variables) {
+        Err(end) => Err(end),
+        Ok(()) => print_rows(sink, rows),
+    }
+}
+
+/// Prints the number of variables of a model that was read.
+fn print_variables<K: Sink>(sink: &mut K, variables: usize) -> Result<(), SinkEnd>
+    ensures written { Writes K.Sink result sink.old sink.new (spelling Wording.ReadVariables ++ decimal variables) }
+{
+    let mut buffer = Buffer::new();
+    put_two(
+        sink,
+        bytes_of(Wording::ReadVariables),
+        buffer.format(variables).as_bytes(),
+    )
+}
+
+/// Prints the number of rows of a model that was read.
+fn print_rows<K: Sink>(sink: &mut K, rows: usize) -> Result<(), SinkEnd>
+    ensures written { Writes K.Sink result sink.old sink.new (spelling Wording.Rows ++ decimal rows ++ spelling Wording.LineEnd) }
+{
+    let mut buffer = Buffer::new();
+    put_three(
+        sink,
+        bytes_of(Wording::Rows),
+        buffer.format(rows).as_bytes(),
+        bytes_of(Wording::LineEnd),
+    )
 }

@@ -1,13 +1,16 @@
-//! The reply to the run of a model, from what was noted.
-ghost use Rattle.std.specs.Prelude.{◌≡◌, ◌≤◌, ◌^◌, ◌++◌, All, length, flat_map, IfSome, unsigned_abs};
+//! The replies, whose listed points stand among the notes. Nothing here takes memory.
+ghost use Rattle.std.specs.Prelude.{◌≡◌, ◌<◌, ◌≤◌, ◌^◌, ◌++◌, All, length, flat_map, IfSome, unsigned_abs};
 ghost use Rattle.sp_base.specs.Writing.{Writes};
+ghost use Rattle.sp_engine.specs.Runs.{IsSmall};
 ghost use Rattle.sp_model.specs.Boxes.{IsWithin};
 ghost use Rattle.sp_model.specs.Models.{root_of};
-ghost use Rattle.sp_shell.specs.Replies.{done_head, entry_line, IsPrintable, solution_line};
+ghost use Rattle.sp_shell.specs.Replies.{done_head, solution_line};
+ghost use Rattle.sp_shell.specs.InnerReplies.{AreNoted, IsPrintable, entry_line, printed_text, serial_line};
 
-use crate::journals::Entry;
-use crate::printing::{print_head, print_line};
-use sp_base::{Sink, SinkEnd, Text, texts_grow, texts_join};
+use crate::printing::{print_head, print_line, print_read, print_stopped};
+use crate::wordings::{bytes_of, wording_of};
+use sp_base::{Sink, SinkEnd, Text, texts_grow, texts_join, write_all};
+use sp_engine::{Entry, Reply};
 use sp_model::{Model, Point};
 
 /// Prints the line of a point.
@@ -27,7 +30,7 @@ fn print_point<K: Sink>(
 }
 
 /// Prints the line of a noted point, and nothing for another note.
-#[tactic(auto, unfolding(crate::specs::Replies::entry_line))]
+#[tactic(auto, unfolding(crate::specs::InnerReplies::entry_line))]
 fn print_entry<K: Sink>(
     sink: &mut K,
     names: &[Text],
@@ -46,19 +49,37 @@ fn print_entry<K: Sink>(
     }
 }
 
-/// Prints the lines of the noted points.
-fn print_entries<K: Sink>(
+/// Prints the line of the point of this serial.
+#[tactic(auto, unfolding(crate::specs::InnerReplies::serial_line))]
+fn print_serial<K: Sink>(
     sink: &mut K,
     names: &[Text],
     model: &Model,
-    entries: &[Entry],
+    notes: &[Entry],
+    serial: &usize,
 ) -> Result<(), SinkEnd>
-    requires { All (IsPrintable names.now model.now) entries.now }
-    ensures written { Writes K.Sink result sink.old sink.new (flat_map (entry_line names.now model.now) entries.now) }
+    requires noted { serial.now < length notes.now }
+    requires notes { All (IsPrintable names.now model.now) notes.now }
+    ensures written { Writes K.Sink result sink.old sink.new (serial_line names.now model.now notes.now serial.now) }
+{
+    print_entry(sink, names, model, &notes[*serial])
+}
+
+/// Prints the lines of the points of these serials.
+fn print_serials<K: Sink>(
+    sink: &mut K,
+    names: &[Text],
+    model: &Model,
+    notes: &[Entry],
+    serials: &[usize],
+) -> Result<(), SinkEnd>
+    requires noted { All (λ serial. serial < length notes.now) serials.now }
+    requires notes { All (IsPrintable names.now model.now) notes.now }
+    ensures written { Writes K.Sink result sink.old sink.new (flat_map (serial_line names.now model.now notes.now) serials.now) }
 {
     texts_grow();
-    for entry in entries {
-        match print_entry(sink, names, model, entry) {
+    for serial in serials {
+        match print_serial(sink, names, model, notes, serial) {
             Err(end) => return Err(end),
             Ok(()) => {}
         }
@@ -67,22 +88,47 @@ fn print_entries<K: Sink>(
 }
 
 /// Prints the reply of a complete list.
-pub fn print_done<K: Sink>(
+fn print_listed<K: Sink>(
     sink: &mut K,
     names: &[Text],
     model: &Model,
-    best: &Option<i128>,
-    number: usize,
-    entries: &[Entry],
+    optimum: &Option<i128>,
+    serials: &[usize],
+    notes: &[Entry],
 ) -> Result<(), SinkEnd>
-    requires best { IfSome best.now (λ v. unsigned_abs v ≤ 10 ^ 36) }
-    requires entries { All (IsPrintable names.now model.now) entries.now }
-    ensures written { Writes K.Sink result sink.old sink.new (done_head model.now.maximize best.now number ++ flat_map (entry_line names.now model.now) entries.now) }
+    requires optimum { IfSome optimum.now (λ v. unsigned_abs v ≤ 10 ^ 36) }
+    requires noted { All (λ serial. serial < length notes.now) serials.now }
+    requires notes { All (IsPrintable names.now model.now) notes.now }
+    ensures written { Writes K.Sink result sink.old sink.new (done_head model.now.maximize optimum.now (length serials.now) ++ flat_map (serial_line names.now model.now notes.now) serials.now) }
 {
-    let maximize = model.parts().maximize;
     texts_join();
-    match print_head(sink, maximize, best, number) {
+    let maximize = model.parts().maximize;
+    match print_head(sink, maximize, optimum, serials.len()) {
         Err(end) => Err(end),
-        Ok(()) => print_entries(sink, names, model, entries),
+        Ok(()) => print_serials(sink, names, model, notes, serials),
+    }
+}
+
+/// Prints a reply over this model. The notes are the read's and those that were made since.
+#[tactic(auto, unfolding(crate::specs::InnerReplies::printed_text))]
+pub fn print_reply<K: Sink>(
+    sink: &mut K,
+    names: &[Text],
+    model: &Model,
+    reply: &Reply,
+    notes: &[Entry],
+) -> Result<(), SinkEnd>
+    requires small { IsSmall reply.now }
+    requires noted { AreNoted (length notes.now) reply.now }
+    requires notes { All (IsPrintable names.now model.now) notes.now }
+    ensures written { Writes K.Sink result sink.old sink.new (printed_text names.now model.now notes.now reply.now) }
+{
+    match reply {
+        Reply::Listed { optimum, serials } => {
+            print_listed(sink, names, model, optimum, serials.as_slice(), notes)
+        }
+        Reply::Read { variables, rows } => print_read(sink, *variables, *rows),
+        Reply::Stopped { nodes } => print_stopped(sink, *nodes),
+        Reply::Refused(why) => write_all(sink, bytes_of(wording_of(*why))),
     }
 }

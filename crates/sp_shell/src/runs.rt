@@ -1,28 +1,31 @@
 //! The top call: one run over a source, a shelf and a sink.
-ghost use Rattle.std.specs.Prelude.{◌≡◌, ◌≤◌, ◌^◌, ◌<◌, ◌++◌, ◌∷◌, [], ◌↔◌, None, All, List, ℕ, length, count_by, flat_map, Err, IfSome, MatchOption, Some, vec_len, vec_capacity, unsigned_abs};
+ghost use Rattle.std.specs.Prelude.{◌≡◌, ◌≤◌, ◌^◌, ◌<◌, ◌++◌, ◌∷◌, [], ◌↔◌, None, All, List, ℕ, Option, length, count_by, flat_map, Err, IfSome, MatchOption, Some, vec_len, vec_capacity, unsigned_abs};
 ghost use Rattle.sp_base.specs.Buffers.{inner_of, waiting_of};
 ghost use Rattle.sp_base.specs.Counts.{Rose, RoseBy, raised_by};
+ghost use Rattle.sp_base.specs.Shelf.{Files};
 ghost use Rattle.sp_base.specs.Status.{code_of};
 ghost use Rattle.sp_base.specs.Writing.{Puts, Sends, Writes};
-ghost use Rattle.sp_small_lp.specs.Reads.{Reads};
+ghost use Rattle.sp_engine.specs.declared.reading.ReadEnd.TheVariants as ended;
+ghost use Rattle.sp_engine.specs.LegalRuns.{first_settings};
+ghost use Rattle.sp_engine.specs.Notes.{is_answer, is_absence, is_overrun, is_fault};
+ghost use Rattle.sp_engine.specs.ReadEnds.{ReadSays};
+ghost use Rattle.sp_engine.specs.Reading.{WantsInRead};
+ghost use Rattle.sp_engine.specs.Runs.{IsSmall};
+ghost use Rattle.sp_engine.specs.Views.{begun};
 ghost use Rattle.sp_model.specs.Rules.{IsLawful};
-ghost use Rattle.sp_shell.specs.Replies.{reply_text, IsPrintable};
-ghost use Rattle.sp_shell.specs.Runs.{file_word, file_limit, RunText, RunUnsaid, IsFileRun, IsUnsaid, IsUsage, Outcome, AreAnswersOf, is_answer, is_absence, is_overrun, is_fault};
-ghost use Rattle.sp_shell.specs.Wording.{spelling};
+ghost use Rattle.sp_shell.specs.InnerReplies.{AreNoted, IsPrintable, printed_text};
+ghost use Rattle.sp_shell.specs.Runs.{file_word, RunText, RunUnsaid, IsFileRun, IsUsage, Outcome};
+ghost use Rattle.sp_shell.specs.Wording.{refusal_wording, spelling};
 
-use crate::journals::{Entry, FetchNote, Journal, RunEnd};
-use crate::preparing::{Ready, prepare};
-use crate::printing::print_stopped;
-use crate::replying::print_done;
-use crate::wordings::{Wording, bytes_of};
-use sp_base::{
-    Buffered, Fetched, Shelf, Sink, SinkEnd, Source, Status, Text, WordList, texts_join, write_all,
-};
-use sp_model::Items;
-use sp_small_lp::{LpRefusal, NamedModel, read_lp};
+use crate::replying::print_reply;
+use crate::wordings::{Wording, bytes_of, wording_of};
+use sp_base::{Buffered, Shelf, Sink, SinkEnd, Source, Status, Text, WordList, write_all};
+use sp_engine::{Entry, FetchNote, Journal, Listing, ReadEnd, Refusal, Reply, list, read};
+use sp_model::{Items, Model};
+use sp_small_lp::NamedModel;
 use std::alloc::Global;
 
-/// The most bytes that a model file may have, 2^26.
+/// The most bytes that the first file of a session may have, 2^26.
 const FILE_LIMIT: u64 = 1 << 26;
 
 /// How a run ended, and what it noted.
@@ -43,8 +46,11 @@ impl Ending {
     }
 }
 
-ghost use Rattle.sp_shell.specs.Ready.{IsReady, NotesAfter};
-ghost use Rattle.sp_shell.specs.Endings.{status_after, Answers, IsWhole};
+ghost use Rattle.sp_shell.specs.InnerRuns.{IsRead, OwnNotes};
+ghost use Rattle.sp_shell.specs.InnerEndings.{status_after, Answers, IsWhole};
+ghost use Rattle.sp_shell.specs.Runs.{status_by};
+ghost use Rattle.sp_engine.specs.Replies.{is_refused};
+ghost use Rattle.sp_engine.specs.ReadEnds.{bytes_notes};
 
 /// The ending with this status and these notes.
 fn end_with(status: Status, entries: Vec<Entry>) -> Ending
@@ -78,61 +84,58 @@ fn push_note(entries: &mut Vec<Entry>, entry: Entry)
     }
 }
 
-/// Prints the reply to the run of a model.
-#[tactic(auto, unfolding(crate::specs::Replies::reply_text))]
-fn print_reply<K: Sink>(sink: &mut K, ready: &Ready, entries: &[Entry]) -> Result<(), SinkEnd>
-    requires best { IfSome ready.now.best (λ v. unsigned_abs v ≤ 10 ^ 36) }
-    requires entries { All (IsPrintable ready.now.names ready.now.model) entries.now }
-    ensures written { Writes K.Sink result sink.old sink.new (reply_text ready.now.names ready.now.model ready.now.best ready.now.number ready.now.end ready.now.nodes entries.now) }
-{
-    texts_join();
-    match ready.end {
-        RunEnd::NodeLimit => print_stopped(sink, ready.nodes),
-        RunEnd::Done => print_done(
-            sink,
-            ready.names.as_slice(),
-            &ready.model,
-            &ready.best,
-            ready.number,
-            entries,
-        ),
-        RunEnd::Optimal => Ok(()),
-        RunEnd::Infeasible => Ok(()),
-        RunEnd::PopulateLimit => Ok(()),
-    }
-}
-
-/// Prints the reply to the run of a model and sends all of it.
+/// Prints a reply and sends all of it.
 fn send_reply<K: Sink>(
     buffer: &mut Buffered<K>,
-    ready: &Ready,
-    entries: &[Entry],
+    names: &[Text],
+    model: &Model,
+    reply: &Reply,
+    notes: &[Entry],
 ) -> Result<(), SinkEnd>
     requires empty { waiting_of buffer.old ≡ [] }
-    requires best { IfSome ready.now.best (λ v. unsigned_abs v ≤ 10 ^ 36) }
-    requires entries { All (IsPrintable ready.now.names ready.now.model) entries.now }
-    ensures sent { Sends K.Sink result (inner_of buffer.old) (inner_of buffer.new) (reply_text ready.now.names ready.now.model ready.now.best ready.now.number ready.now.end ready.now.nodes entries.now) }
+    requires small { IsSmall reply.now }
+    requires noted { AreNoted (length notes.now) reply.now }
+    requires notes { All (IsPrintable names.now model.now) notes.now }
+    ensures sent { Sends K.Sink result (inner_of buffer.old) (inner_of buffer.new) (printed_text names.now model.now notes.now reply.now) }
 {
-    let written = print_reply(buffer, ready, entries);
+    let written = print_reply(buffer, names, model, reply, notes);
     buffer.finish(written)
 }
 
-/// Prints the reply to a run that is ready, whose notes stand behind the shelf's answer.
-fn reply<K: Sink>(buffer: &mut Buffered<K>, ready: &Ready, entries: Vec<Entry>) -> Ending
+/// Prints the reply of the list, whose notes stand behind the read's, and ends with the status that the reply asks for.
+fn end_with_list<K: Sink>(
+    buffer: &mut Buffered<K>,
+    names: &[Text],
+    model: &Model,
+    reply: &Reply,
+    entries: Vec<Entry>,
+) -> Ending
     requires waits { waiting_of buffer.old ≡ [] }
-    requires best { IfSome ready.now.best (λ v. unsigned_abs v ≤ 10 ^ 36) }
-    requires entries { All (IsPrintable ready.now.names ready.now.model) entries.items }
+    requires small { IsSmall reply.now }
+    requires noted { AreNoted (length entries.items) reply.now }
+    requires notes { All (IsPrintable names.now model.now) entries.items }
     ensures entries { result.journal.entries ≡ entries.items }
-    ensures answered { Answers K.takes_memory Status.Clean result.status (K.held (inner_of buffer.old)) (K.held (inner_of buffer.new)) (reply_text ready.now.names ready.now.model ready.now.best ready.now.number ready.now.end ready.now.nodes entries.items) }
+    ensures answered { Answers K.takes_memory (status_by (is_refused reply.now)) result.status (K.held (inner_of buffer.old)) (K.held (inner_of buffer.new)) (printed_text names.now model.now entries.items reply.now) }
     ensures later { K.faults (inner_of buffer.old) ≤ K.faults (inner_of buffer.new) }
     ensures same { K.name (inner_of buffer.new) ≡ K.name (inner_of buffer.old) }
     ensures fault { result.status ≡ Status.SinkFault → Rose (K.faults (inner_of buffer.old)) (K.faults (inner_of buffer.new)) }
 {
-    let sent = send_reply(buffer, ready, entries.as_slice());
-    end_with(status_of(sent, Status::Clean), entries)
+    let sent = send_reply(buffer, names, model, reply, entries.as_slice());
+    end_with(status_of(sent, status_for(reply)), entries)
 }
 
-/// Lists the model that the bytes were read as, behind the note of these bytes, and prints the reply.
+/// The status of a run with this last reply.
+fn status_for(reply: &Reply) -> Status
+    ensures { result ≡ status_by (is_refused reply.now) }
+{
+    if reply.is_refused() {
+        Status::SomeRefused
+    } else {
+        Status::Clean
+    }
+}
+
+/// Lists the model that the file was read as, behind the note of its bytes, and prints the reply.
 fn list_model<K: Sink>(
     alloc: Global,
     bytes: Text,
@@ -140,25 +143,31 @@ fn list_model<K: Sink>(
     mut entries: Vec<Entry>,
     buffer: &mut Buffered<K>,
 ) -> Ending
-    requires read { Reads bytes named.names named.parts }
     requires lawful { IsLawful named.parts }
     requires named { length named.names ≡ length named.parts.lower }
     requires empty { entries.items ≡ [] }
     requires waits { waiting_of buffer.old ≡ [] }
     requires room { vec_len entries < vec_capacity entries }
-    ensures notes { NotesAfter (Entry.Fetched (FetchNote.Bytes bytes)) result.journal.entries }
-    ensures outcome { Outcome K.takes_memory IsFileRun IsUnsaid result.journal.entries result.status (K.held (inner_of buffer.old)) (K.held (inner_of buffer.new)) }
+    ensures notes { OwnNotes (Entry.Fetched (FetchNote.Bytes bytes)) result.journal.entries }
+    ensures outcome { (files : Option Files) (name : List ℕ) → IsRead files name bytes named
+        → Outcome K.takes_memory (IsFileRun files name) (WantsInRead (begun first_settings files) name) result.journal.entries result.status (K.held (inner_of buffer.old)) (K.held (inner_of buffer.new)) }
     ensures later { K.faults (inner_of buffer.old) ≤ K.faults (inner_of buffer.new) }
     ensures same { K.name (inner_of buffer.new) ≡ K.name (inner_of buffer.old) }
     ensures fault { result.status ≡ Status.SinkFault → Rose (K.faults (inner_of buffer.old)) (K.faults (inner_of buffer.new)) }
 {
     push_note(&mut entries, Entry::Fetched(FetchNote::Bytes(bytes)));
-    let Ok((ready, mut rest)) = prepare(alloc, named) else {
+    let Ok(listing) = list(alloc, named) else {
         return end_with(Status::NoMemory, entries);
     };
-    match entries.append(&mut rest) {
+    let Listing {
+        names,
+        model,
+        mut notes,
+        reply,
+    } = listing;
+    match entries.append(&mut notes) {
         Err(_) => end_with(Status::NoMemory, entries),
-        Ok(()) => reply(buffer, &ready, entries),
+        Ok(()) => end_with_list(buffer, names.as_slice(), &model, &reply, entries),
     }
 }
 
@@ -170,13 +179,13 @@ fn list_buffered<K: Sink>(
     mut entries: Vec<Entry>,
     sink: &mut K,
 ) -> Ending
-    requires read { Reads bytes named.names named.parts }
     requires lawful { IsLawful named.parts }
     requires named { length named.names ≡ length named.parts.lower }
     requires empty { entries.items ≡ [] }
     requires room { vec_len entries < vec_capacity entries }
-    ensures notes { NotesAfter (Entry.Fetched (FetchNote.Bytes bytes)) result.journal.entries }
-    ensures outcome { Outcome K.takes_memory IsFileRun IsUnsaid result.journal.entries result.status (K.held sink.old) (K.held sink.new) }
+    ensures notes { OwnNotes (Entry.Fetched (FetchNote.Bytes bytes)) result.journal.entries }
+    ensures outcome { (files : Option Files) (name : List ℕ) → IsRead files name bytes named
+        → Outcome K.takes_memory (IsFileRun files name) (WantsInRead (begun first_settings files) name) result.journal.entries result.status (K.held sink.old) (K.held sink.new) }
     ensures later { K.faults sink.old ≤ K.faults sink.new }
     ensures fault { result.status ≡ Status.SinkFault → Rose (K.faults sink.old) (K.faults sink.new) }
 {
@@ -212,40 +221,36 @@ fn end_with_line<K: Sink>(
 }
 
 /// Notes the shelf's answer and prints why the file is refused.
-fn refuse<K: Sink>(sink: &mut K, mut entries: Vec<Entry>, answer: FetchNote, why: Wording) -> Ending
+fn refuse<K: Sink>(sink: &mut K, mut entries: Vec<Entry>, answer: FetchNote, why: Refusal) -> Ending
     requires empty { entries.items ≡ [] }
     requires room { vec_len entries < vec_capacity entries }
     ensures entries { result.journal.entries ≡ Entry.Fetched answer ∷ [] }
-    ensures answered { Answers K.takes_memory Status.SomeRefused result.status (K.held sink.old) (K.held sink.new) (spelling why) }
+    ensures answered { Answers K.takes_memory Status.SomeRefused result.status (K.held sink.old) (K.held sink.new) (spelling (refusal_wording why)) }
     ensures later { K.faults sink.old ≤ K.faults sink.new }
     ensures fault { result.status ≡ Status.SinkFault → Rose (K.faults sink.old) (K.faults sink.new) }
 {
     push_note(&mut entries, Entry::Fetched(answer));
-    end_with_line(sink, entries, why, Status::SomeRefused)
+    end_with_line(sink, entries, wording_of(why), Status::SomeRefused)
 }
 
-/// Reads the bytes of the file as a model and lists it, or prints that they are none.
-fn read_model<K: Sink>(alloc: Global, bytes: Text, mut entries: Vec<Entry>, sink: &mut K) -> Ending
-    requires short { length bytes ≤ file_limit }
+/// Ends where memory was wanting, with a note of the bytes where they were fetched.
+fn end_without_memory(mut entries: Vec<Entry>, bytes: Option<Text>) -> Ending
     requires empty { entries.items ≡ [] }
     requires room { vec_len entries < vec_capacity entries }
-    ensures notes { NotesAfter (Entry.Fetched (FetchNote.Bytes bytes)) result.journal.entries }
-    ensures outcome { Outcome K.takes_memory IsFileRun IsUnsaid result.journal.entries result.status (K.held sink.old) (K.held sink.new) }
-    ensures later { K.faults sink.old ≤ K.faults sink.new }
-    ensures fault { result.status ≡ Status.SinkFault → Rose (K.faults sink.old) (K.faults sink.new) }
+    ensures status { result.status ≡ Status.NoMemory }
+    ensures entries { result.journal.entries ≡ bytes_notes bytes }
 {
-    match read_lp(alloc, bytes.as_slice()) {
-        Ok(named) => list_buffered(alloc, bytes, named, entries, sink),
-        Err(LpRefusal::Syntax) => refuse(sink, entries, FetchNote::Bytes(bytes), Wording::Syntax),
-        Err(LpRefusal::NoMemory) => {
+    match bytes {
+        None => end_with(Status::NoMemory, entries),
+        Some(bytes) => {
             push_note(&mut entries, Entry::Fetched(FetchNote::Bytes(bytes)));
             end_with(Status::NoMemory, entries)
         }
     }
 }
 
-/// Asks the shelf for the file that the words name, once, and goes on with its answer, for whose note there is room.
-fn ask_shelf<F: Shelf, K: Sink>(
+/// Reads the file that the words name from the shelf and lists its model. There is room for the shelf's answer.
+fn read_and_list<F: Shelf, K: Sink>(
     alloc: Global,
     name: &Text,
     entries: Vec<Entry>,
@@ -254,22 +259,19 @@ fn ask_shelf<F: Shelf, K: Sink>(
 ) -> Ending
     requires empty { entries.items ≡ [] }
     requires room { vec_len entries < vec_capacity entries }
-    ensures outcome { Outcome K.takes_memory IsFileRun IsUnsaid result.journal.entries result.status (K.held sink.old) (K.held sink.new) }
+    ensures outcome { Outcome K.takes_memory (IsFileRun (F.files shelf.old) name.now) (WantsInRead (begun first_settings (F.files shelf.old)) name.now) result.journal.entries result.status (K.held sink.old) (K.held sink.new) }
     ensures fault { result.status ≡ Status.SinkFault → Rose (K.faults sink.old) (K.faults sink.new) }
     ensures later { K.faults sink.old ≤ K.faults sink.new }
-    ensures told { AreAnswersOf (F.files shelf.old) (Some name.now) result.journal.entries }
     ensures files { F.files shelf.new ≡ F.files shelf.old }
     ensures answers { F.answers shelf.new ≡ raised_by (count_by is_answer result.journal.entries) (F.answers shelf.old) }
     ensures absences { RoseBy (count_by is_absence result.journal.entries) (F.absences shelf.old) (F.absences shelf.new) }
     ensures overruns { RoseBy (count_by is_overrun result.journal.entries) (F.overruns shelf.old) (F.overruns shelf.new) }
     ensures shelf_faults { RoseBy (count_by is_fault result.journal.entries) (F.faults shelf.old) (F.faults shelf.new) }
 {
-    match shelf.read(name, FILE_LIMIT) {
-        Fetched::Bytes(bytes) => read_model(alloc, bytes, entries, sink),
-        Fetched::Absent => refuse(sink, entries, FetchNote::Absent, Wording::FileAbsent),
-        Fetched::TooLong => refuse(sink, entries, FetchNote::TooLong, Wording::FileTooLong),
-        Fetched::Failed => refuse(sink, entries, FetchNote::Failed, Wording::FileFault),
-        Fetched::NoMemory => end_with(Status::NoMemory, entries),
+    match read(alloc, name, FILE_LIMIT, shelf) {
+        ReadEnd::Accepted { bytes, named } => list_buffered(alloc, bytes, named, entries, sink),
+        ReadEnd::Refused { answer, why } => refuse(sink, entries, answer, why),
+        ReadEnd::NoMemory { bytes } => end_without_memory(entries, bytes),
     }
 }
 
@@ -303,14 +305,13 @@ pub fn run<S: Source, F: Shelf, K: Sink>(
     sink: &mut K,
 ) -> Ending
     // what was printed, noted and answered
-    ensures outcome { Outcome K.takes_memory (RunText (file_word words.now)) (RunUnsaid (file_word words.now)) result.journal.entries result.status (K.held sink.old) (K.held sink.new) }
+    ensures outcome { Outcome K.takes_memory (RunText (F.files shelf.old) (file_word words.now)) (RunUnsaid (F.files shelf.old) (file_word words.now)) result.journal.entries result.status (K.held sink.old) (K.held sink.new) }
 
     // the cause of a sink's fault
     ensures sink_fault { result.status ≡ Status.SinkFault → Rose (K.faults sink.old) (K.faults sink.new) }
     ensures sink_later { K.faults sink.old ≤ K.faults sink.new }
 
-    // each answer of the shelf is noted, each such note is its answer, and its counts rose by as many
-    ensures told { AreAnswersOf (F.files shelf.old) (file_word words.now) result.journal.entries }
+    // each answer of the shelf is noted, and its counts rose by as many
     ensures answers { F.answers shelf.new ≡ raised_by (count_by is_answer result.journal.entries) (F.answers shelf.old) }
     ensures absences { RoseBy (count_by is_absence result.journal.entries) (F.absences shelf.old) (F.absences shelf.new) }
     ensures overruns { RoseBy (count_by is_overrun result.journal.entries) (F.overruns shelf.old) (F.overruns shelf.new) }
@@ -327,7 +328,7 @@ pub fn run<S: Source, F: Shelf, K: Sink>(
         None => end_with_line(sink, Vec::new(alloc), Wording::Usage, Status::Usage),
         Some(name) => match Vec::with_capacity(alloc, 1) {
             Err(_) => end_with(Status::NoMemory, Vec::new(alloc)),
-            Ok(entries) => ask_shelf(alloc, name, entries, shelf, sink),
+            Ok(entries) => read_and_list(alloc, name, entries, shelf, sink),
         },
     }
 }

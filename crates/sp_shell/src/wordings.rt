@@ -1,6 +1,8 @@
 //! The fixed parts of what is printed.
 ghost use Rattle.std.specs.Prelude.{◌≡◌};
-ghost use Rattle.sp_shell.specs.Wording.{spelling};
+ghost use Rattle.sp_shell.specs.Wording.{refusal_wording, spelling};
+
+use sp_engine::Refusal;
 
 /// A fixed part of the printed text. The parts that are whole lines end with their line feed.
 #[derive(Clone, Copy, PartialEq, Eq, Debug)]
@@ -19,6 +21,10 @@ pub enum Wording {
     Solutions,
     /// What stands before the number of nodes.
     Nodes,
+    /// What stands before the number of variables of a model that was read.
+    ReadVariables,
+    /// What stands before its number of rows.
+    Rows,
     /// What stands between the objective of a solution line and its first value.
     Colon,
     /// What parts the words of a line.
@@ -35,6 +41,18 @@ pub enum Wording {
     FileTooLong,
 }
 
+/// The line of a refusal.
+pub fn wording_of(why: Refusal) -> Wording
+    ensures { result ≡ refusal_wording why }
+{
+    match why {
+        Refusal::Syntax => Wording::Syntax,
+        Refusal::FileAbsent => Wording::FileAbsent,
+        Refusal::FileFault => Wording::FileFault,
+        Refusal::FileTooLong => Wording::FileTooLong,
+    }
+}
+
 /// The bytes of a fixed part.
 #[tactic(auto, unfolding(crate::specs::Wording::spelling))]
 pub fn bytes_of(wording: Wording) -> &'static [u8]
@@ -49,6 +67,8 @@ pub fn bytes_of(wording: Wording) -> &'static [u8]
         Wording::Infeasible => b"infeasible\n",
         Wording::Solutions => b"solutions ",
         Wording::Nodes => b"nodes ",
+        Wording::ReadVariables => b"read variables ",
+        Wording::Rows => b" rows ",
         Wording::Colon => b" :",
         Wording::Blank => b" ",
         Wording::LineEnd => b"\n",

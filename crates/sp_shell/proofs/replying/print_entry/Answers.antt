@@ -1,5 +1,5 @@
 use Rattle.std.proofs.Common.{rules}
-use Rattle.sp_shell.specs.Replies.{entry_line}
+use Rattle.sp_shell.specs.InnerReplies.{entry_line}
 use Rattle.sp_shell.proofs.replying.print_entry.Goals as goal
 
 pub returns-in-Fetched : goal.returns-in-Fetched

@@ -1,8 +1,12 @@
 use Rattle.std.proofs.Common.{◌∙◌, sym, ap}
 use Rattle.sp_shell.specs.Runs.{file_word}
-use Rattle.sp_shell.proofs.RunLemmas.{usage_outcome}
+use Rattle.sp_shell.proofs.RunLemmas.{no_room_outcome, usage_outcome}
 use Rattle.sp_shell.proofs.runs.run.Goals as goal
 
 pub returns-in-None-clause-outcome : goal.returns-in-None-clause-outcome
 returns-in-None-clause-outcome g c =
-    usage_outcome _ c.end_with_line.result.journal.entries (ap file_word (sym c.as_slice.ensures) ∙ c.in-None.ensures) (c.end_with_line.ensures.entries ∙ c.new.ensures.items) c.end_with_line.ensures.answered
+    usage_outcome _ _ c.end_with_line.result.journal.entries (ap file_word (sym c.as_slice.ensures) ∙ c.in-None.ensures) (c.end_with_line.ensures.entries ∙ c.new.ensures.items) c.end_with_line.ensures.answered
+
+pub returns-in-Err-clause-outcome : goal.returns-in-Err-clause-outcome
+returns-in-Err-clause-outcome g c =
+    no_room_outcome g.K.Sink.takes_memory _ _ _ _ _ _ (ap file_word (sym c.as_slice.ensures) ∙ c.in-Some.ensures) (c.end_with.ensures.entries ∙ c.new-in-Err.ensures.items) c.end_with.ensures.status

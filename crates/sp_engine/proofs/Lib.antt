@@ -1,0 +1,5 @@
+mod WalkLemmas
+mod SolveLemmas
+mod ListLemmas
+mod ReadLemmas
+mod SessionLemmas

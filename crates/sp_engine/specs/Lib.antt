@@ -1,0 +1,12 @@
+pub mod Notes
+pub mod Views
+pub mod LegalRuns
+pub mod SolutionLists
+pub mod Replies
+pub mod Reading
+pub mod ReadEnds
+pub mod Listing
+pub mod Runs
+pub mod Sessions
+pub mod InnerSolving
+pub mod InnerWalk

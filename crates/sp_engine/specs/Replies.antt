@@ -1,0 +1,10 @@
+-- Which replies are refusals.
+use Rattle.std.specs.Prelude.{Bool, true, false}
+use Rattle.sp_engine.specs.declared.replies.Reply.{Reply}
+use Rattle.sp_engine.specs.declared.replies.Reply.TheVariants as reply
+
+abbrev pub is_refused : Reply → Bool
+is_refused (reply.Refused why) = true
+is_refused (reply.Read variables rows) = false
+is_refused (reply.Listed optimum serials) = false
+is_refused (reply.Stopped nodes) = false

@@ -1,0 +1,82 @@
+//! Reading a model file from a shelf.
+ghost use Rattle.std.specs.Prelude.{◌≡◌, ◌≤◌, count_by, length};
+ghost use Rattle.sp_base.specs.Counts.{RoseBy, raised_by};
+ghost use Rattle.sp_engine.specs.Notes.{is_answer, is_absence, is_overrun, is_fault};
+ghost use Rattle.sp_engine.specs.Views.{View, file_limit, read_limit};
+
+use crate::journals::FetchNote;
+use crate::replies::Refusal;
+use sp_base::{Fetched, Shelf, Text};
+use sp_small_lp::{LpRefusal, NamedModel, read_lp};
+use std::alloc::Global;
+
+/// How the reading of a file ended.
+#[derive(Drop)]
+pub enum ReadEnd {
+    /// The file was fetched and read.
+    Accepted {
+        /// The bytes of the file.
+        bytes: Text,
+        /// Its model.
+        named: NamedModel,
+    },
+    /// The file was refused.
+    Refused {
+        /// The shelf's answer.
+        answer: FetchNote,
+        /// Why.
+        why: Refusal,
+    },
+    /// There was no memory.
+    NoMemory {
+        /// The bytes of the file, where they were fetched before.
+        bytes: Option<Text>,
+    },
+}
+
+ghost use Rattle.sp_engine.specs.ReadEnds.{IsReadOf, ReadSays, IsRunnable, read_notes};
+
+/// Reads the bytes of a file.
+fn read_bytes(alloc: Global, bytes: Text) -> ReadEnd
+    requires { length bytes ≤ file_limit }
+    ensures { IsReadOf bytes result }
+{
+    match read_lp(alloc, bytes.as_slice()) {
+        Ok(named) => ReadEnd::Accepted { bytes, named },
+        Err(LpRefusal::Syntax) => ReadEnd::Refused {
+            answer: FetchNote::Bytes(bytes),
+            why: Refusal::Syntax,
+        },
+        Err(LpRefusal::NoMemory) => ReadEnd::NoMemory { bytes: Some(bytes) },
+    }
+}
+
+/// Asks the shelf for the file of this name, once, and reads it. The file may have at most `limit` bytes, which is at most
+/// 2^26.
+pub fn read<F: Shelf>(alloc: Global, name: &Text, limit: u64, shelf: &mut F) -> ReadEnd
+    requires { limit ≤ file_limit }
+    ensures says { (view : View) → view.files ≡ F.files shelf.old → read_limit view ≡ limit → ReadSays view name.now result }
+    ensures runnable { IsRunnable result }
+    ensures files { F.files shelf.new ≡ F.files shelf.old }
+    ensures answers { F.answers shelf.new ≡ raised_by (count_by is_answer (read_notes result)) (F.answers shelf.old) }
+    ensures absences { RoseBy (count_by is_absence (read_notes result)) (F.absences shelf.old) (F.absences shelf.new) }
+    ensures overruns { RoseBy (count_by is_overrun (read_notes result)) (F.overruns shelf.old) (F.overruns shelf.new) }
+    ensures faults { RoseBy (count_by is_fault (read_notes result)) (F.faults shelf.old) (F.faults shelf.new) }
+{
+    match shelf.read(name, limit) {
+        Fetched::Bytes(bytes) => read_bytes(alloc, bytes),
+        Fetched::Absent => ReadEnd::Refused {
+            answer: FetchNote::Absent,
+            why: Refusal::FileAbsent,
+        },
+        Fetched::TooLong => ReadEnd::Refused {
+            answer: FetchNote::TooLong,
+            why: Refusal::FileTooLong,
+        },
+        Fetched::Failed => ReadEnd::Refused {
+            answer: FetchNote::Failed,
+            why: Refusal::FileFault,
+        },
+        Fetched::NoMemory => ReadEnd::NoMemory { bytes: None },
+    }
+}

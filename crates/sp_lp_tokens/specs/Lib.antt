@@ -1,9 +1,10 @@
 pub mod Gaps
+pub mod InnerNexts
+pub mod InnerNumeralPlaces
+pub mod InnerPieces
+pub mod InnerSymbolHeads
+pub mod Limits
 pub mod Longest
-pub mod Nexts
-pub mod NumeralPlaces
-pub mod Pieces
 pub mod SeenTokens
-pub mod SymbolHeads
 pub mod Texts
 pub mod Tokens

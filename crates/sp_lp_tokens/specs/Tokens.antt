@@ -9,6 +9,7 @@ use Rattle.sp_lp_tokens.specs.declared.token_types.TokenKind.{TokenKind}
 use Rattle.sp_lp_tokens.specs.declared.token_types.TokenKind.TheVariants.{Name, Number, Symbol}
 use Rattle.sp_lp_tokens.specs.declared.token_types.TokenKindFault.{TokenKindFault}
 use Rattle.sp_lp_tokens.specs.declared.token_types.TokenKindFault.TheVariants.{BadByte, Wide, LongName}
+use Rattle.sp_lp_tokens.specs.Limits.{longest_name}
 use Rattle.sp_lp_tokens.specs.Longest.{IsLongest}
 use Rattle.sp_lp_tokens.specs.Gaps.{is_blank, gap_length, line_at}
 use Rattle.sp_lp_tokens.specs.Texts.{is_name, is_number, spelling, is_token_text}
@@ -23,7 +24,7 @@ text_of source t = text_between source t.start t.end
 
 -- what a token of this text is
 abbrev pub IsKind : List ℕ → TokenKind → Type 0
-IsKind text Name = (is_name text ≡ true) × (length text ≤ 255)
+IsKind text Name = (is_name text ≡ true) × (length text ≤ longest_name)
 IsKind text (Number n) = (is_number text ≡ true) × (numeral text ≡ Ok n)
 IsKind text (Symbol s) = text ≡ spelling s
 
@@ -31,7 +32,7 @@ IsKind text (Symbol s) = text ≡ spelling s
 abbrev pub IsFaultKind : List ℕ → TokenKindFault → Type 0
 IsFaultKind text BadByte = text ≡ []
 IsFaultKind text Wide = (is_number text ≡ true) × (numeral text ≡ Err numeral_faults.Wide)
-IsFaultKind text LongName = (is_name text ≡ true) × (255 < length text)
+IsFaultKind text LongName = (is_name text ≡ true) × (longest_name < length text)
 
 -- behind the gap at a place, the longest front that is a token's text lies from start to end; where none is, they are the same
 pub record IsNextText (source : List ℕ) (place start end : ℕ) : Type 0 where

@@ -1,3 +1,4 @@
+//! What stands between tokens: blanks, line feeds and comments.
 ghost use Rattle.std.specs.Prelude.{◌≡◌, ℕ, suc, ◌≤◌, false, List, ◌∷◌, length, take, count_by, MatchOption};
 ghost use Rattle.sp_lp_tokens.specs.Gaps.{is_feed, is_blank, gap_length};
 

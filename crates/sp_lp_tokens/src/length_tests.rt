@@ -1,3 +1,4 @@
+//! Tests of the lengths of names, numbers and symbols.
 use crate::lengths::{name_length, number_length, symbol_at};
 use crate::symbols::Symbol;
 use std::test::Fail;

@@ -1,6 +1,7 @@
+//! The lengths of the longest name, number and symbol that bytes begin with.
 ghost use Rattle.std.specs.Prelude.{◌≡◌, if◌then◌else◌, length, take};
 ghost use Rattle.std.specs.List.{prefix_len};
-ghost use Rattle.sp_lp_tokens.specs.NumeralPlaces.{ends_numeral};
+ghost use Rattle.sp_lp_tokens.specs.InnerNumeralPlaces.{ends_numeral};
 ghost use Rattle.std.specs.Option.{IfSome, IfNone};
 ghost use Rattle.sp_lp_tokens.specs.Longest.{IsLongest};
 ghost use Rattle.sp_lp_tokens.specs.Texts.{is_name, is_name_byte, begins_name, is_number, is_symbol, spelling};

@@ -16,5 +16,5 @@ mod token_types;
 
 pub use reading::tokens;
 pub use symbols::Symbol;
-pub use token_laws::{files_have_tokens, tokens_are_unique};
+pub use token_laws::{files_have_tokens, gaps_are_longest, tokens_are_unique};
 pub use token_types::{Token, TokenKind, TokenKindFault, TokenRefusal};

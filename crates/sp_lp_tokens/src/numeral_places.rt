@@ -1,5 +1,6 @@
+//! The places of a numeral, and the one behind each next byte.
 ghost use Rattle.std.specs.Prelude.{◌≡◌};
-ghost use Rattle.sp_lp_tokens.specs.NumeralPlaces.{place_after, ends_numeral};
+ghost use Rattle.sp_lp_tokens.specs.InnerNumeralPlaces.{place_after, ends_numeral};
 ghost use Rattle.sp_decimal.specs.Grammar.{is_exponent_letter, is_sign};
 
 /// How far a numeral has been read.

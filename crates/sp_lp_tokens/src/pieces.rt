@@ -1,7 +1,8 @@
+//! The longest token that bytes begin with.
 ghost use Rattle.std.specs.Prelude.{◌≡◌, ◌<◌, ◌≤◌, true, length};
 ghost use Rattle.sp_lp_tokens.specs.Longest.{IsLongest};
 ghost use Rattle.sp_lp_tokens.specs.Texts.{is_name, is_number};
-ghost use Rattle.sp_lp_tokens.specs.Pieces.{IsPieceOrFault};
+ghost use Rattle.sp_lp_tokens.specs.InnerPieces.{IsPieceOrFault};
 
 use crate::lengths::{name_length, number_length, symbol_at};
 use crate::token_types::{TokenKind, TokenKindFault};

@@ -1,8 +1,10 @@
-ghost use Rattle.std.specs.Prelude.{◌≡◌, ℕ, ◌≤◌, ◌^◌, List, length, drop, IfOk, IfErr, MatchResult, All};
+//! The list of the tokens of a file.
+ghost use Rattle.sp_lp_tokens.specs.Limits.{most_bytes};
+ghost use Rattle.std.specs.Prelude.{◌≡◌, ℕ, ◌≤◌, List, length, drop, IfOk, IfErr, MatchResult, All};
 ghost use Rattle.sp_lp_tokens.specs.Gaps.{line_at};
 ghost use Rattle.sp_lp_tokens.specs.Tokens.{AreTokens, AreInOrder, IsSpan, Ending, TokensFrom, is_end_word, colon_follows, ends_list};
 ghost use Rattle.sp_lp_tokens.specs.declared.token_types.Token.{Token};
-ghost use Rattle.sp_lp_tokens.specs.Nexts.{IsNext, IsRefusal, IsListOf, IsRefusalOf};
+ghost use Rattle.sp_lp_tokens.specs.InnerNexts.{IsNext, IsRefusal, IsListOf, IsRefusalOf};
 
 use crate::gaps::{gap_before, is_blank};
 use crate::pieces::piece_at;
@@ -31,7 +33,7 @@ fn rest_of(source: &[u8], place: usize) -> &[u8]
 
 /// What comes next behind a place of the file, in whose line the place stands.
 fn next_at(source: &[u8], place: usize, line: u32) -> Next
-    requires small { length source.now ≤ 2 ^ 26 }
+    requires small { length source.now ≤ most_bytes }
     requires within { place ≤ length source.now }
     requires line { line ≡ line_at source.now place }
     ensures { IsNext source.now place result }
@@ -89,7 +91,7 @@ fn ends_list(source: &[u8], line_before: u32, token: &Token) -> bool
 /// the word `end`, in any case, where it is the first token of its line and no colon follows it there; what comes later isn't
 /// read. `Fault` tells the first fault of the file with its line; `NoMemory` comes where the list can't grow.
 pub fn tokens(alloc: Global, bytes: &[u8]) -> Result<Vec<Token>, TokenRefusal>
-    requires { length bytes.now ≤ 2 ^ 26 }
+    requires { length bytes.now ≤ most_bytes }
     ensures found { IfOk result (λ tokens. AreTokens bytes.now tokens.items) }
     ensures fault { IfErr result (IsRefusal bytes.now) }
     ensures spans { IfOk result (λ tokens. AreInOrder 0 tokens.items (length bytes.now)) }

@@ -1,5 +1,6 @@
+//! The symbols of LP files.
 ghost use Rattle.std.specs.Prelude.{◌≡◌, if◌then◌else◌};
-ghost use Rattle.sp_lp_tokens.specs.SymbolHeads.{begins_with, begins_with_arrow, less_symbol, equal_symbol, symbol_from};
+ghost use Rattle.sp_lp_tokens.specs.InnerSymbolHeads.{begins_with, begins_with_arrow, less_symbol, equal_symbol, symbol_from};
 ghost use Rattle.sp_lp_tokens.specs.Texts.{spelling};
 
 /// A symbol of the format.
@@ -129,7 +130,7 @@ fn longer_or(rest: &[u8], second: u8, longer: Symbol, shorter: Symbol) -> Symbol
 }
 
 /// The longest symbol that begins with the byte and goes on with the text behind it.
-#[tactic(auto, unfolding(crate::specs::SymbolHeads::symbol_from))]
+#[tactic(auto, unfolding(crate::specs::InnerSymbolHeads::symbol_from))]
 pub(crate) fn symbol_from(first: u8, rest: &[u8]) -> Option<Symbol>
     ensures { result ≡ symbol_from first rest.now }
 {

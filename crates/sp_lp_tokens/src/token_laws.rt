@@ -1,4 +1,6 @@
-ghost use Rattle.std.specs.Prelude.{◌≡◌, ℕ, List};
+//! Laws of tokens: each is the contract of a function that does nothing.
+ghost use Rattle.std.specs.Prelude.{◌≡◌, ℕ, ◌≤◌, false, List, length, take};
+ghost use Rattle.sp_lp_tokens.specs.Gaps.{gap_length, IsGap};
 ghost use Rattle.sp_lp_tokens.specs.declared.token_types.Token.{Token};
 ghost use Rattle.sp_lp_tokens.specs.Tokens.{Ending, TokensFrom};
 
@@ -16,3 +18,10 @@ pub fn files_have_tokens()
 {
     numerals_have_one_reading();
 }
+
+/// What stands before a token is the longest front made of blanks, line feeds and pieces from a backslash to its line feed; at
+/// the end of a file the last of these pieces need not have one.
+pub fn gaps_are_longest()
+    ensures gap { (bytes : List ℕ) → IsGap (take (gap_length false bytes) bytes) }
+    ensures longest { (bytes : List ℕ) (k : ℕ) → k ≤ length bytes → IsGap (take k bytes) → k ≤ gap_length false bytes }
+{}

@@ -1,3 +1,4 @@
+//! Tests of the tokens of whole files.
 ghost use Rattle.std.specs.Prelude.{All};
 ghost use Rattle.sp_lp_tokens.specs.Tokens.{IsSpan};
 

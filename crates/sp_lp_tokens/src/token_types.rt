@@ -1,3 +1,4 @@
+//! Tokens, and why a file has none.
 ghost use Rattle.std.specs.Prelude.{◌≡◌, ◌≤◌, length};
 ghost use Rattle.sp_lp_tokens.specs.Tokens.{text_of};
 

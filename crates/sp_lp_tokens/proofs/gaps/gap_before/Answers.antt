@@ -1,5 +1,5 @@
 use Rattle.std.proofs.Common.{arith}
-use Rattle.sp_lp_tokens.proofs.GapLaws.{gap_length-drop_all}
+use Rattle.sp_lp_tokens.proofs.GapLemmas.{gap_length-drop_all}
 use Rattle.sp_lp_tokens.proofs.gaps.gap_before.Goals as goal
 
 pub returns-clause-length : goal.returns-clause-length

@@ -1,5 +1,5 @@
 use Rattle.std.proofs.Common.{arith}
-use Rattle.sp_lp_tokens.proofs.NameFronts.{name_found, name_not_found}
+use Rattle.sp_lp_tokens.proofs.NameFrontsLemmas.{name_found, name_not_found}
 use Rattle.sp_lp_tokens.proofs.lengths.name_length.Goals as goal
 
 pub returns-then-begins_name : goal.returns-then-begins_name

@@ -1,7 +1,7 @@
 use Rattle.std.proofs.Common.{◌≡◌, get_or, Some, None, arith}
-use Rattle.sp_lp_tokens.specs.NumeralPlaces.{place_after}
-use Rattle.sp_lp_tokens.proofs.NumeralLeft.{no_place, next_place}
-use Rattle.sp_lp_tokens.proofs.NumeralFronts.{read_stops, read_more}
+use Rattle.sp_lp_tokens.specs.InnerNumeralPlaces.{place_after}
+use Rattle.sp_lp_tokens.proofs.NumeralLeftLemmas.{no_place, next_place}
+use Rattle.sp_lp_tokens.proofs.NumeralFrontsLemmas.{read_stops, read_more}
 use Rattle.sp_lp_tokens.proofs.lengths.number_length.Goals as goal
 
 pub returns-in-None : goal.returns-in-None

@@ -1,4 +1,4 @@
-use Rattle.sp_lp_tokens.proofs.NumeralFronts.{IsRead}
+use Rattle.sp_lp_tokens.proofs.NumeralFrontsLemmas.{IsRead}
 use Rattle.sp_lp_tokens.proofs.lengths.number_length.Given as goal
 
 abbrev pub invariant-loop-i : goal.invariant-loop-i

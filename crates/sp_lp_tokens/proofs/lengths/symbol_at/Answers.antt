@@ -1,5 +1,5 @@
 use Rattle.std.proofs.Common.{arith}
-use Rattle.sp_lp_tokens.proofs.SymbolFronts.{symbol_found, head_none, head_spelled, head_longest}
+use Rattle.sp_lp_tokens.proofs.SymbolFrontsLemmas.{symbol_found, head_none, head_spelled, head_longest}
 use Rattle.sp_lp_tokens.proofs.lengths.symbol_at.Goals as goal
 
 pub returns-in-len1-up-clause-none : goal.returns-in-len1-up-clause-none

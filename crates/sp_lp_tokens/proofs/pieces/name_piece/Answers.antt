@@ -1,4 +1,4 @@
-use Rattle.sp_lp_tokens.proofs.PieceLaws.{name_is_piece, long_name_is_fault}
+use Rattle.sp_lp_tokens.proofs.PieceLemmas.{name_is_piece, long_name_is_fault}
 use Rattle.std.proofs.Common.{arith}
 use Rattle.sp_lp_tokens.proofs.pieces.name_piece.Goals as goal
 

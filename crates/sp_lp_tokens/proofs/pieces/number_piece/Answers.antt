@@ -1,6 +1,6 @@
 use Rattle.std.proofs.Common.{sym, ◌∙◌}
-use Rattle.sp_lp_tokens.proofs.NumberLaws.{number_is_numeral}
-use Rattle.sp_lp_tokens.proofs.PieceLaws.{number_is_piece, wide_number_is_fault}
+use Rattle.sp_lp_tokens.proofs.NumberLemmas.{number_is_numeral}
+use Rattle.sp_lp_tokens.proofs.PieceLemmas.{number_is_piece, wide_number_is_fault}
 use Rattle.sp_lp_tokens.proofs.pieces.number_piece.Goals as goal
 
 pub unreachable-requires : goal.unreachable-requires

@@ -1,4 +1,4 @@
-use Rattle.sp_lp_tokens.proofs.PieceLaws.{symbol_is_piece, nothing_is_fault}
+use Rattle.sp_lp_tokens.proofs.PieceLemmas.{symbol_is_piece, nothing_is_fault}
 use Rattle.std.proofs.Common.{arith}
 use Rattle.sp_lp_tokens.proofs.pieces.piece_at.Goals as goal
 

@@ -1,6 +1,6 @@
 use Rattle.std.proofs.Common.{◌+◌, arith}
-use Rattle.sp_lp_tokens.proofs.LineLaws.{line_at-add, line_at-le}
-use Rattle.sp_lp_tokens.proofs.NextLaws.{token_is_next, fault_is_next}
+use Rattle.sp_lp_tokens.proofs.LineLemmas.{line_at-add, line_at-le}
+use Rattle.sp_lp_tokens.proofs.NextLemmas.{token_is_next, fault_is_next}
 use Rattle.sp_lp_tokens.proofs.reading.next_at.Goals as goal
 
 pub overflow_add-line : goal.overflow_add-line

@@ -1,9 +1,9 @@
 use Rattle.std.proofs.Common.{[], ◌∷◌, ◌++◌, length, sym, arith, append_assoc}
 use Rattle.std.proofs.lemmas.List.{append-nil}
 use Rattle.sp_lp_tokens.specs.Tokens.{Complete, Faulty}
-use Rattle.sp_lp_tokens.proofs.LineLaws.{line_at-first}
-use Rattle.sp_lp_tokens.proofs.TokenLaws.{next_lies_behind, line_at-end, complete_at, fault_at, token_first, token_last, tokens_in_order, ordered_are_spans, tokens_are_few}
-use Rattle.sp_lp_tokens.proofs.OneList.{only_list, only_fault}
+use Rattle.sp_lp_tokens.proofs.LineLemmas.{line_at-first}
+use Rattle.sp_lp_tokens.proofs.TokenLemmas.{next_lies_behind, line_at-end, complete_at, fault_at, token_first, token_last, tokens_in_order, ordered_are_spans, tokens_are_few}
+use Rattle.sp_lp_tokens.proofs.OneListLemmas.{only_list, only_fault}
 use Rattle.sp_lp_tokens.proofs.reading.tokens.Goals as goal
 
 pub loop-tokens-init : goal.loop-tokens-init

@@ -1,5 +1,5 @@
 use Rattle.std.proofs.Common.{length, arith}
-use Rattle.sp_lp_tokens.proofs.SomeList.{tokens_from}
+use Rattle.sp_lp_tokens.proofs.SomeListLemmas.{tokens_from}
 use Rattle.sp_lp_tokens.proofs.token_laws.files_have_tokens.Goals as goal
 
 pub returns : goal.returns

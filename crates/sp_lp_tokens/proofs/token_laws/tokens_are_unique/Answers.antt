@@ -1,4 +1,4 @@
-use Rattle.sp_lp_tokens.proofs.OneList.{one_list}
+use Rattle.sp_lp_tokens.proofs.OneListLemmas.{one_list}
 use Rattle.sp_lp_tokens.proofs.token_laws.tokens_are_unique.Goals as goal
 
 pub returns : goal.returns

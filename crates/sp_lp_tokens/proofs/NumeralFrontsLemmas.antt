@@ -5,9 +5,9 @@ use Rattle.std.proofs.lemmas.List.{take_more, append-nil}
 use Rattle.std.proofs.lemmas.Bool.{cases_lt}
 use Rattle.sp_lp_tokens.specs.declared.numeral_places.Place.{Place}
 use Rattle.sp_lp_tokens.specs.Longest.{IsLongest}
-use Rattle.sp_lp_tokens.specs.NumeralPlaces.{ends_numeral}
+use Rattle.sp_lp_tokens.specs.InnerNumeralPlaces.{ends_numeral}
 use Rattle.sp_lp_tokens.specs.Texts.{is_number}
-use Rattle.sp_lp_tokens.proofs.NumeralLeft.{left, left-nil, Continues}
+use Rattle.sp_lp_tokens.proofs.NumeralLeftLemmas.{left, left-nil, Continues}
 
 -- i bytes are read, the numeral stands at the place, and the longest number so far has n bytes
 pub record IsRead (bytes : List ℕ) (i : ℕ) (place : Place) (n : ℕ) : Type 0 where

@@ -19,13 +19,13 @@ use Rattle.sp_lp_tokens.specs.declared.pieces.Piece.{Piece}
 use Rattle.sp_lp_tokens.specs.declared.symbols.Symbol as symbols
 use Rattle.sp_lp_tokens.specs.Gaps.{is_feed, is_blank, is_backslash, gap_length, line_at}
 use Rattle.sp_lp_tokens.specs.Longest.{IsLongest}
-use Rattle.sp_lp_tokens.specs.Pieces.{IsPiece, IsFaultyPiece}
+use Rattle.sp_lp_tokens.specs.InnerPieces.{IsPiece, IsFaultyPiece}
 use Rattle.sp_lp_tokens.specs.Texts.{is_name, is_number, is_symbol, spelling, symbols as all_symbols, is_token_text}
 use Rattle.sp_lp_tokens.specs.Tokens.{IsNextToken, Ending, Complete, Faulty, TokensFrom, ends_list}
-use Rattle.sp_lp_tokens.proofs.GapLaws.{gap_length-drop_all}
-use Rattle.sp_lp_tokens.proofs.NextLaws.{IsGapAt, token_is_next, fault_is_next}
-use Rattle.sp_lp_tokens.proofs.NumberLaws.{number_is_numeral}
-use Rattle.sp_lp_tokens.proofs.TokenLaws.{next_lies_behind, complete_at, fault_at, token_first, token_last}
+use Rattle.sp_lp_tokens.proofs.GapLemmas.{gap_length-drop_all}
+use Rattle.sp_lp_tokens.proofs.NextLemmas.{IsGapAt, token_is_next, fault_is_next}
+use Rattle.sp_lp_tokens.proofs.NumberLemmas.{number_is_numeral}
+use Rattle.sp_lp_tokens.proofs.TokenLemmas.{next_lies_behind, complete_at, fault_at, token_first, token_last}
 
 -- a longest front, sought from the longest on
 longest_from : (test : List ℕ → Bool) (bytes : List ℕ) (m : ℕ) → m ≤ length bytes → ((k : ℕ) → m < k → k ≤ length bytes → test (take k bytes) ≡ false) → (n : ℕ) × IsLongest test bytes n

@@ -8,8 +8,8 @@ use Rattle.sp_lp_tokens.specs.Gaps.{is_feed, gap_length, line_at}
 use Rattle.sp_lp_tokens.specs.Longest.{IsLongest}
 use Rattle.sp_lp_tokens.specs.Texts.{is_token_text}
 use Rattle.sp_lp_tokens.specs.Tokens.{IsNextText, IsNextToken, IsNextFault, IsKind, IsFaultKind, text_between}
-use Rattle.sp_lp_tokens.specs.Pieces.{IsPiece, IsFaultyPiece}
-use Rattle.sp_lp_tokens.proofs.LineLaws.{line_at-add}
+use Rattle.sp_lp_tokens.specs.InnerPieces.{IsPiece, IsFaultyPiece}
+use Rattle.sp_lp_tokens.proofs.LineLemmas.{line_at-add}
 
 -- the gap before a place
 pub record IsGapAt (source : List ℕ) (place line gap feeds : ℕ) : Type 0 where

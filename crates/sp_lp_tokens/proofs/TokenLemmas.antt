@@ -14,9 +14,9 @@ use Rattle.sp_lp_tokens.specs.declared.numeral_places.Place.TheVariants.{Start}
 use Rattle.sp_lp_tokens.specs.Gaps.{is_feed, gap_length, line_at}
 use Rattle.sp_lp_tokens.specs.Texts.{is_name, is_number}
 use Rattle.sp_lp_tokens.specs.Tokens.{IsKind, IsNextToken, IsNextFault, text_of, Ending, Complete, Faulty, Onward, TokensFrom, ends_list, AreInOrder, IsSpan}
-use Rattle.sp_lp_tokens.proofs.NumeralLeft.{left-nil}
-use Rattle.sp_lp_tokens.proofs.FeedLaws.{no_feed_in_name, no_feed_in_number, no_feed_in_symbol}
-use Rattle.sp_lp_tokens.proofs.LineLaws.{line_at-add}
+use Rattle.sp_lp_tokens.proofs.NumeralLeftLemmas.{left-nil}
+use Rattle.sp_lp_tokens.proofs.FeedLemmas.{no_feed_in_name, no_feed_in_number, no_feed_in_symbol}
+use Rattle.sp_lp_tokens.proofs.LineLemmas.{line_at-add}
 
 no_name_in_nothing : is_name [] ≡ false
 no_name_in_nothing = refl

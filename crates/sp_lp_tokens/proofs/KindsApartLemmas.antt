@@ -7,9 +7,9 @@ use Rattle.std.proofs.lemmas.Bool.{false≢true, eqb-true, and_parts, or_cases, 
 use Rattle.sp_decimal.specs.Grammar.{is_point}
 use Rattle.sp_lp_tokens.specs.Longest.{IsLongest}
 use Rattle.sp_lp_tokens.specs.Texts.{begins_name, is_name_byte, is_name, is_number, is_symbol, is_token_text}
-use Rattle.sp_lp_tokens.proofs.LongestLaws.{NoFront, longest_first, longest_second, longest_third}
-use Rattle.sp_lp_tokens.proofs.NumeralLeft.{no_number_from}
-use Rattle.sp_lp_tokens.proofs.SymbolFronts.{begins_symbol, no_symbol_from}
+use Rattle.sp_lp_tokens.proofs.LongestLemmas.{NoFront, longest_first, longest_second, longest_third}
+use Rattle.sp_lp_tokens.proofs.NumeralLeftLemmas.{no_number_from}
+use Rattle.sp_lp_tokens.proofs.SymbolFrontsLemmas.{begins_symbol, no_symbol_from}
 
 -- a digit or a full stop
 abbrev pub begins_number : ℕ → Bool

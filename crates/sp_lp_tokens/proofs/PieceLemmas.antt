@@ -8,8 +8,8 @@ use Rattle.sp_lp_tokens.specs.declared.token_types.TokenKindFault.TheVariants.{B
 use Rattle.sp_lp_tokens.specs.declared.symbols.Symbol as symbols
 use Rattle.sp_lp_tokens.specs.Longest.{IsLongest}
 use Rattle.sp_lp_tokens.specs.Texts.{is_name, is_number, is_symbol, spelling}
-use Rattle.sp_lp_tokens.specs.Pieces.{IsPiece, IsFaultyPiece}
-use Rattle.sp_lp_tokens.proofs.KindsApart.{longest_name, longest_number, longest_symbol, no_token}
+use Rattle.sp_lp_tokens.specs.InnerPieces.{IsPiece, IsFaultyPiece}
+use Rattle.sp_lp_tokens.proofs.KindsApartLemmas.{longest_name, longest_number, longest_symbol, no_token}
 use Rattle.std.proofs.lemmas.List.{length-take-le}
 
 -- the text of a longest front has its length

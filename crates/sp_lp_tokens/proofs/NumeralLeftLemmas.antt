@@ -7,7 +7,7 @@ use Rattle.std.proofs.lemmas.Bool.{and_parts, leb-true, eqb-true, or_from, or_pa
 use Rattle.sp_decimal.specs.Grammar.{some_digits, is_sign, is_point, is_exponent_letter, unsigned, mantissa, exponent, whole_part, fraction_part, is_mantissa, is_plain_numeral}
 use Rattle.sp_lp_tokens.specs.declared.numeral_places.Place.{Place}
 use Rattle.sp_lp_tokens.specs.declared.numeral_places.Place.TheVariants.{Start, Whole, Point, Fraction, Letter, Sign, Power}
-use Rattle.sp_lp_tokens.specs.NumeralPlaces.{place_after, ends_numeral}
+use Rattle.sp_lp_tokens.specs.InnerNumeralPlaces.{place_after, ends_numeral}
 use Rattle.sp_lp_tokens.specs.Texts.{is_number}
 
 one_more : (n : ℕ) → 1 + n ≡ suc n

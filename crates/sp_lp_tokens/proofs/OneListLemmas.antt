@@ -12,13 +12,13 @@ use Rattle.sp_lp_tokens.specs.declared.token_types.TokenRefusal.TheVariants as r
 use Rattle.sp_lp_tokens.specs.declared.symbols.Symbol as symbols
 use Rattle.sp_lp_tokens.specs.declared.symbols.Symbol.TheVariants.{Plus}
 use Rattle.sp_lp_tokens.specs.Gaps.{gap_length, line_at}
-use Rattle.sp_lp_tokens.specs.SymbolHeads.{symbol_from}
+use Rattle.sp_lp_tokens.specs.InnerSymbolHeads.{symbol_from}
 use Rattle.sp_lp_tokens.specs.Texts.{is_name, is_number, is_symbol, spelling, is_token_text}
 use Rattle.sp_lp_tokens.specs.Tokens.{text_between, IsKind, IsFaultKind, IsNextText, IsNextToken, IsNextFault, text_of, Ending, Complete, Faulty, Onward, TokensFrom, ends_list}
-use Rattle.sp_lp_tokens.specs.Nexts.{IsListOf, IsRefusalOf}
-use Rattle.sp_lp_tokens.proofs.KindsApart.{name_is_no_number, name_is_no_symbol, number_is_no_symbol}
-use Rattle.sp_lp_tokens.proofs.LongestLaws.{longest_is_one}
-use Rattle.sp_lp_tokens.proofs.TokenLaws.{kind_has_text, no_number_in_nothing}
+use Rattle.sp_lp_tokens.specs.InnerNexts.{IsListOf, IsRefusalOf}
+use Rattle.sp_lp_tokens.proofs.KindsApartLemmas.{name_is_no_number, name_is_no_symbol, number_is_no_symbol}
+use Rattle.sp_lp_tokens.proofs.LongestLemmas.{longest_is_one}
+use Rattle.sp_lp_tokens.proofs.TokenLemmas.{kind_has_text, no_number_in_nothing}
 
 -- the symbol that a text is read as
 read_symbol : List ℕ → Option symbols.Symbol

@@ -8,7 +8,7 @@ use Rattle.std.proofs.lemmas.List.{take_rest}
 use Rattle.std.proofs.lemmas.Bool.{eqb-true, false≢true, or_parts}
 use Rattle.sp_lp_tokens.specs.declared.symbols.Symbol.{Symbol}
 use Rattle.sp_lp_tokens.specs.declared.symbols.Symbol.TheVariants.{Plus, Minus, Colon, DoubleColon, Less, LessEqual, EqualLess, Greater, GreaterEqual, EqualGreater, Equal, Arrow, DoubleArrow, LeftBracket, RightBracket, Star, Caret, Slash}
-use Rattle.sp_lp_tokens.specs.SymbolHeads.{begins_with, begins_with_arrow, less_symbol, equal_symbol, symbol_from}
+use Rattle.sp_lp_tokens.specs.InnerSymbolHeads.{begins_with, begins_with_arrow, less_symbol, equal_symbol, symbol_from}
 use Rattle.sp_lp_tokens.specs.Longest.{IsLongest}
 use Rattle.sp_lp_tokens.specs.Texts.{is_symbol, spelling}
 

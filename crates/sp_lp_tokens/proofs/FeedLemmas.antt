@@ -9,9 +9,9 @@ use Rattle.sp_lp_tokens.specs.declared.numeral_places.Place.TheVariants.{Start, 
 use Rattle.sp_lp_tokens.specs.declared.symbols.Symbol.{Symbol}
 use Rattle.sp_lp_tokens.specs.declared.symbols.Symbol.TheVariants.{Plus}
 use Rattle.sp_lp_tokens.specs.Gaps.{is_feed}
-use Rattle.sp_lp_tokens.specs.NumeralPlaces.{place_after}
+use Rattle.sp_lp_tokens.specs.InnerNumeralPlaces.{place_after}
 use Rattle.sp_lp_tokens.specs.Texts.{is_name, begins_name, is_name_byte, is_number, spelling}
-use Rattle.sp_lp_tokens.proofs.NumeralLeft.{left, Continues, place_continues}
+use Rattle.sp_lp_tokens.proofs.NumeralLeftLemmas.{left, Continues, place_continues}
 
 -- a byte that passes a test which a line feed fails is none
 not_feed : (p : ℕ → Bool) (b : ℕ) → p 10 ≡ false → p b ≡ true → is_feed b ≡ false

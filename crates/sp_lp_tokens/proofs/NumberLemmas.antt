@@ -9,7 +9,7 @@ use Rattle.sp_decimal.specs.Grammar.{unsigned, is_sign, is_plain_numeral}
 use Rattle.sp_decimal.specs.Numerals.{numeral}
 use Rattle.sp_decimal.specs.Readings.{IsReading}
 use Rattle.sp_lp_tokens.specs.Texts.{is_number}
-use Rattle.sp_lp_tokens.proofs.KindsApart.{begins_number, number_begins}
+use Rattle.sp_lp_tokens.proofs.KindsApartLemmas.{begins_number, number_begins}
 
 is_no : (b c : ℕ) → begins_number c ≡ false → begins_number b ≡ true → eqb b c ≡ true → ⊥
 is_no b c none h e = both_ways (begins_number c) none (ap begins_number (sym (eqb-true b c e)) ∙ h)

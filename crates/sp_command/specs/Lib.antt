@@ -2,5 +2,6 @@ pub mod Commands
 pub mod Filters
 pub mod InnerResults
 pub mod Keywords
+pub mod Lawful
 pub mod Lines
 pub mod Values

@@ -1,5 +1,5 @@
 -- What a line of a session says: a command, or why it is none.
-use Rattle.std.specs.Prelude.{◌≡◌, ◌≢◌, ℕ, nat_lt, if◌then◌else◌, List, [], ◌∷◌, length, Option, Some, None, Result, Ok, Err}
+use Rattle.std.specs.Prelude.{◌≡◌, ◌≢◌, ℕ, Bool, true, false, nat_lt, if◌then◌else◌, List, [], ◌∷◌, length, Option, Some, None, Result, Ok, Err}
 use Rattle.std.specs.Option.{option_map, option_and_then}
 use Rattle.sp_base.specs.Fields.{fields}
 use Rattle.sp_command.specs.declared.commands.Command.{Command}
@@ -59,3 +59,27 @@ said_by line = if nat_lt most_bytes (length line) then Err LongLine else with_wo
 abbrev pub Answers : Result Command CommandRefusal → Result Command CommandRefusal → Type 0
 Answers want (Ok command) = want ≡ Ok command
 Answers want (Err why) = why ≢ NoMemory → want ≡ Err why
+
+-- whether a command of this first word holds texts
+abbrev pub takes_memory : Verb → Bool
+takes_memory ReadVerb = true
+takes_memory OptimizeVerb = false
+takes_memory PopulateVerb = false
+takes_memory NBestVerb = false
+takes_memory SetVerb = false
+takes_memory FilterVerb = true
+takes_memory DisplayVerb = false
+takes_memory WriteVerb = true
+takes_memory QuitVerb = false
+
+abbrev pub verb_takes_memory : Option Verb → Type 0
+verb_takes_memory None = ⊥
+verb_takes_memory (Some verb) = takes_memory verb ≡ true
+
+abbrev pub words_take_memory : List Word → Type 0
+words_take_memory [] = ⊥
+words_take_memory (verb ∷ words) = verb_takes_memory (verb_of verb)
+
+-- only a line that begins with read, filter or write takes memory
+abbrev pub TakesMemory : List ℕ → Type 0
+TakesMemory line = words_take_memory (fields line)

@@ -1,10 +1,17 @@
 //! Bounds and coefficients of filters.
 
-ghost use Rattle.std.specs.Prelude.{◌≡◌};
+ghost use Rattle.std.specs.Prelude.{◌≡◌, Some, None, if◌then◌else◌};
 ghost use Rattle.sp_command.specs.Values.{lower_of, upper_of, exact_of};
 
 use crate::numbers::{is_far_above, is_far_below};
 use sp_decimal::{Decimal, Numeral};
+
+/// No bound, where it is on the far side.
+fn unbounded(far: bool) -> Option<Option<Decimal>>
+    ensures { result ≡ (if far then Some None else None) }
+{
+    if far { Some(None) } else { None }
+}
 
 /// The lower bound that the word writes: outside `None` where it writes none, inside where it is no bound.
 #[tactic(auto, unfolding(crate::specs::Values::lower_of))]

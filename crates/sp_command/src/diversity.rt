@@ -1,6 +1,7 @@
 //! The terms of a diversity filter.
 
-ghost use Rattle.std.specs.Prelude.{◌≡◌, ◌∷◌, [], ◌++◌, OnOk, IfErr, IfOk, MatchOption, MatchResult, Some, None};
+ghost use Rattle.std.specs.Prelude.{◌≡◌, ◌∷◌, [], ◌++◌, OnOk, IfErr, IfOk, MatchOption, MatchResult, IfSome, All, ◌≤◌, ◌^◌, unsigned_abs, Some, None};
+ghost use Rattle.sp_command.specs.Lawful.{IsDistance};
 ghost use Rattle.sp_base.specs.Fields.{fields};
 ghost use Rattle.sp_command.specs.Filters.{cut_last, reference_of, distance_of, distances, joined};
 ghost use Rattle.sp_command.specs.InnerResults.{IsBad, after_distances};
@@ -33,7 +34,8 @@ fn split_last(text: &[u8]) -> Option<(&[u8], &[u8])>
 
 /// The whole number with a minus or without.
 fn reference(text: &[u8]) -> Option<i128>
-    ensures { result ≡ reference_of text.now }
+    ensures value { result ≡ reference_of text.now }
+    ensures small { IfSome result (λ z. unsigned_abs z ≤ 10 ^ 15) }
 {
     if text.is_empty() {
         return None;
@@ -52,7 +54,8 @@ fn reference(text: &[u8]) -> Option<i128>
 
 /// The term that the word is: the name, its weight and its reference value.
 fn distance(word: &[u8]) -> Option<(&[u8], Decimal, i128)>
-    ensures { MatchOption result (distance_of word.now ≡ None) (λ term. distance_of word.now ≡ Some (term.0.now, term.1, term.2)) }
+    ensures value { MatchOption result (distance_of word.now ≡ None) (λ term. distance_of word.now ≡ Some (term.0.now, term.1, term.2)) }
+    ensures small { IfSome result (λ term. unsigned_abs term.2 ≤ 10 ^ 15) }
 {
     match split_last(word) {
         None => None,
@@ -100,6 +103,7 @@ fn put_word(
 ) -> Result<(), CommandRefusal>
     ensures ok { OnOk result (after_distances terms.old (joined (distance_of word.now) (Some [])) ≡ Some terms.new) }
     ensures err { IfErr result (λ why. IsBad why (distance_of word.now)) }
+    ensures small { All IsDistance terms.old → OnOk result (All IsDistance terms.new) }
 {
     match distance(word) {
         None => Err(CommandRefusal::BadArgument),
@@ -109,7 +113,8 @@ fn put_word(
 
 /// The terms that the words are, at least one.
 pub(crate) fn terms(alloc: Global, text: &[u8]) -> Result<Items<DiversityTerm>, CommandRefusal>
-    ensures { MatchResult result (λ found. distances (fields text.now) ≡ Some found) (λ why. IsBad why (distances (fields text.now))) }
+    ensures terms { MatchResult result (λ found. distances (fields text.now) ≡ Some found) (λ why. IsBad why (distances (fields text.now))) }
+    ensures small { IfOk result (All IsDistance) }
 {
     if next_field(text).is_none() {
         return Err(CommandRefusal::BadArgument);

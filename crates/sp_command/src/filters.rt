@@ -1,6 +1,7 @@
 //! The commands on filters.
 
-ghost use Rattle.std.specs.Prelude.{◌≡◌};
+ghost use Rattle.std.specs.Prelude.{◌≡◌, IfOk};
+ghost use Rattle.sp_command.specs.Lawful.{IsShort, IsLawfulCommand};
 ghost use Rattle.std.specs.Option.{option_and_then};
 ghost use Rattle.sp_base.specs.Fields.{fields};
 ghost use Rattle.sp_command.specs.Filters.{is_filter_name, range_of, range_named, range_above, range_sum, sum_from, diversity_of, diversity_named, diversity_above, diversity_within, delete_of, is_at_most};
@@ -63,7 +64,9 @@ fn range_from(
     lo: Option<Decimal>,
     rest: &[u8],
 ) -> Result<Command, CommandRefusal>
-    ensures { Gives result (range_sum name.now lo (sum_from Place.First (fields rest.now))) }
+    requires { IsShort name.now }
+    ensures gives { Gives result (range_sum name.now lo (sum_from Place.First (fields rest.now))) }
+    ensures lawful { IfOk result IsLawfulCommand }
 {
     match sum(alloc, tables, rest) {
         Err(why) => Err(why),
@@ -89,7 +92,9 @@ fn range_with(
     lo: Option<Decimal>,
     rest: &[u8],
 ) -> Result<Command, CommandRefusal>
-    ensures { Gives result (range_above name.now lo (fields rest.now)) }
+    requires { IsShort name.now }
+    ensures gives { Gives result (range_above name.now lo (fields rest.now)) }
+    ensures lawful { IfOk result IsLawfulCommand }
 {
     match next_field(rest) {
         None => Err(CommandRefusal::BadArgument),
@@ -109,7 +114,9 @@ fn range_for(
     name: &[u8],
     rest: &[u8],
 ) -> Result<Command, CommandRefusal>
-    ensures { Gives result (range_named name.now (fields rest.now)) }
+    requires { IsShort name.now }
+    ensures gives { Gives result (range_named name.now (fields rest.now)) }
+    ensures lawful { IfOk result IsLawfulCommand }
 {
     match next_field(rest) {
         None => Err(CommandRefusal::BadArgument),
@@ -122,7 +129,8 @@ fn range_for(
 
 /// A range filter: NAME LO <= EXPR <= HI.
 pub(crate) fn range(alloc: Global, tables: &Tables, rest: &[u8]) -> Result<Command, CommandRefusal>
-    ensures { Gives result (range_of (fields rest.now)) }
+    ensures gives { Gives result (range_of (fields rest.now)) }
+    ensures lawful { IfOk result IsLawfulCommand }
 {
     match next_field(rest) {
         None => Err(CommandRefusal::BadArgument),
@@ -143,7 +151,9 @@ fn diversity_from(
     hi: Option<Decimal>,
     rest: &[u8],
 ) -> Result<Command, CommandRefusal>
-    ensures { Gives result (diversity_within name.now lo hi (fields rest.now)) }
+    requires { IsShort name.now }
+    ensures gives { Gives result (diversity_within name.now lo hi (fields rest.now)) }
+    ensures lawful { IfOk result IsLawfulCommand }
 {
     match terms(alloc, rest) {
         Err(why) => Err(why),
@@ -165,7 +175,9 @@ fn diversity_with(
     lo: Option<Decimal>,
     rest: &[u8],
 ) -> Result<Command, CommandRefusal>
-    ensures { Gives result (diversity_above name.now lo (fields rest.now)) }
+    requires { IsShort name.now }
+    ensures gives { Gives result (diversity_above name.now lo (fields rest.now)) }
+    ensures lawful { IfOk result IsLawfulCommand }
 {
     match next_field(rest) {
         None => Err(CommandRefusal::BadArgument),
@@ -177,7 +189,9 @@ fn diversity_with(
 }
 
 fn diversity_for(alloc: Global, name: &[u8], rest: &[u8]) -> Result<Command, CommandRefusal>
-    ensures { Gives result (diversity_named name.now (fields rest.now)) }
+    requires { IsShort name.now }
+    ensures gives { Gives result (diversity_named name.now (fields rest.now)) }
+    ensures lawful { IfOk result IsLawfulCommand }
 {
     match next_field(rest) {
         None => Err(CommandRefusal::BadArgument),
@@ -190,7 +204,8 @@ fn diversity_for(alloc: Global, name: &[u8], rest: &[u8]) -> Result<Command, Com
 
 /// A diversity filter: NAME LO HI T ..
 pub(crate) fn diversity(alloc: Global, rest: &[u8]) -> Result<Command, CommandRefusal>
-    ensures { Gives result (diversity_of (fields rest.now)) }
+    ensures gives { Gives result (diversity_of (fields rest.now)) }
+    ensures lawful { IfOk result IsLawfulCommand }
 {
     match next_field(rest) {
         None => Err(CommandRefusal::BadArgument),
@@ -206,7 +221,8 @@ pub(crate) fn diversity(alloc: Global, rest: &[u8]) -> Result<Command, CommandRe
 
 /// The removal of a filter: NAME.
 pub(crate) fn deletion(alloc: Global, rest: &[u8]) -> Result<Command, CommandRefusal>
-    ensures { Gives result (delete_of (fields rest.now)) }
+    ensures gives { Gives result (delete_of (fields rest.now)) }
+    ensures lawful { IfOk result IsLawfulCommand }
 {
     match only_field(rest) {
         None => Err(CommandRefusal::BadArgument),

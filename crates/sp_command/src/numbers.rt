@@ -2,6 +2,8 @@
 
 ghost use Rattle.std.specs.Prelude.{◌≡◌, ◌<◌, ◌≤◌, ◌^◌, ◌-◌, min, IfSome};
 ghost use Rattle.std.specs.List.{list_all};
+ghost use Rattle.sp_model.specs.Cuts.{IsGap};
+ghost use Rattle.sp_command.specs.Lawful.{IsFromTo};
 ghost use Rattle.sp_command.specs.Values.{number_of, is_digit, is_whole, whole, gap_of, gap_for, is_far_up, is_far_down};
 
 use sp_decimal::{Decimal, Numeral, ceil, floor};
@@ -55,7 +57,7 @@ fn is_number(word: &[u8]) -> bool
 pub(crate) fn whole_number(least: u64, most: u64, word: &[u8]) -> Option<u64>
     requires { most < 2 ^ 63 }
     ensures value { result ≡ whole least most word.now }
-    ensures most { IfSome result (λ n. n ≤ most) }
+    ensures inside { IfSome result (IsFromTo least most) }
 {
     if !is_number(word) {
         return None;
@@ -86,7 +88,8 @@ pub(crate) fn is_far_below(d: &Decimal) -> bool
 
 /// The gap that the number is.
 fn exact_gap(d: &Decimal) -> Option<Gap>
-    ensures { result ≡ gap_for (Numeral.Exact d.now) }
+    ensures value { result ≡ gap_for (Numeral.Exact d.now) }
+    ensures lawful { IfSome result IsGap }
 {
     if d.p < 0 {
         return None;
@@ -106,7 +109,8 @@ fn exact_gap(d: &Decimal) -> Option<Gap>
 /// The gap that the word writes.
 #[tactic(auto, unfolding(crate::specs::Values::gap_of))]
 pub(crate) fn gap(word: &[u8]) -> Option<Gap>
-    ensures { result ≡ gap_of word.now }
+    ensures value { result ≡ gap_of word.now }
+    ensures lawful { IfSome result IsGap }
 {
     match Numeral::read(word) {
         Ok(numeral) => match &numeral {

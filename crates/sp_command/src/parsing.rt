@@ -1,9 +1,10 @@
 //! From a line to its command.
 
-ghost use Rattle.std.specs.Prelude.{◌≡◌};
+ghost use Rattle.std.specs.Prelude.{◌≡◌, true, IfOk, IsErrOf};
+ghost use Rattle.sp_command.specs.Lawful.{IsLawfulCommand};
 ghost use Rattle.sp_base.specs.Fields.{fields};
 ghost use Rattle.sp_command.specs.Commands.{alone};
-ghost use Rattle.sp_command.specs.Lines.{said_by, filter_of, command_for, Answers};
+ghost use Rattle.sp_command.specs.Lines.{said_by, filter_of, command_for, Answers, TakesMemory, takes_memory};
 ghost use Rattle.sp_command.specs.InnerResults.{Gives};
 
 use crate::commands::Command;
@@ -20,7 +21,8 @@ use std::alloc::Global;
 const LONGEST_LINE: usize = 4096;
 
 fn read(alloc: Global, rest: &[u8]) -> Result<Command, CommandRefusal>
-    ensures { Gives result (command_for Verb.Read (fields rest.now)) }
+    ensures gives { Gives result (command_for Verb.Read (fields rest.now)) }
+    ensures lawful { IfOk result IsLawfulCommand }
 {
     match only_field(rest) {
         None => Err(CommandRefusal::BadArgument),
@@ -37,7 +39,8 @@ fn read(alloc: Global, rest: &[u8]) -> Result<Command, CommandRefusal>
 }
 
 fn write_tree(alloc: Global, tables: &Tables, rest: &[u8]) -> Result<Command, CommandRefusal>
-    ensures { Gives result (command_for Verb.Write (fields rest.now)) }
+    ensures gives { Gives result (command_for Verb.Write (fields rest.now)) }
+    ensures lawful { IfOk result IsLawfulCommand }
 {
     match tree_name(tables, rest) {
         None => Err(CommandRefusal::BadArgument),
@@ -49,7 +52,8 @@ fn write_tree(alloc: Global, tables: &Tables, rest: &[u8]) -> Result<Command, Co
 }
 
 fn filter(alloc: Global, tables: &Tables, rest: &[u8]) -> Result<Command, CommandRefusal>
-    ensures { Gives result (filter_of (fields rest.now)) }
+    ensures gives { Gives result (filter_of (fields rest.now)) }
+    ensures lawful { IfOk result IsLawfulCommand }
 {
     match next_field(rest) {
         None => Err(CommandRefusal::BadArgument),
@@ -64,7 +68,10 @@ fn filter(alloc: Global, tables: &Tables, rest: &[u8]) -> Result<Command, Comman
 
 /// The command without further words.
 fn lone(rest: &[u8], command: Command) -> Result<Command, CommandRefusal>
-    ensures { Gives result (alone (fields rest.now) command) }
+    requires { IsLawfulCommand command }
+    ensures gives { Gives result (alone (fields rest.now) command) }
+    ensures lawful { IfOk result IsLawfulCommand }
+    ensures memory { IsErrOf result CommandRefusal.NoMemory → ⊥ }
 {
     if is_end(rest) {
         Ok(command)
@@ -79,7 +86,9 @@ fn command(
     verb: Verb,
     rest: &[u8],
 ) -> Result<Command, CommandRefusal>
-    ensures { Gives result (command_for verb (fields rest.now)) }
+    ensures gives { Gives result (command_for verb (fields rest.now)) }
+    ensures lawful { IfOk result IsLawfulCommand }
+    ensures memory { IsErrOf result CommandRefusal.NoMemory → takes_memory verb ≡ true }
 {
     match verb {
         Verb::Read => read(alloc, rest),
@@ -112,7 +121,9 @@ fn command(
 /// word is no command, else [`CommandRefusal::BadArgument`] where its other words aren't what that command takes.
 #[tactic(auto, unfolding(crate::specs::Lines::said_by))]
 pub fn parse(alloc: Global, line: &[u8]) -> Result<Command, CommandRefusal>
-    ensures { Answers (said_by line.now) result }
+    ensures says { Answers (said_by line.now) result }
+    ensures lawful { IfOk result IsLawfulCommand }
+    ensures memory { IsErrOf result CommandRefusal.NoMemory → TakesMemory line.now }
 {
     if line.len() > LONGEST_LINE {
         return Err(CommandRefusal::LongLine);

@@ -1,9 +1,10 @@
 //! The commands on settings, and other commands without names.
 
-ghost use Rattle.std.specs.Prelude.{◌≡◌, ◌≢◌, [], MatchBool, option_copied, ◌<◌, ◌≤◌, ◌^◌, drop, length};
+ghost use Rattle.std.specs.Prelude.{◌≡◌, ◌≢◌, [], MatchBool, option_copied, ◌<◌, ◌≤◌, ◌^◌, drop, length, IfSome};
+ghost use Rattle.sp_command.specs.Lawful.{IsFromTo, IsLawfulSetting};
 ghost use Rattle.sp_command.specs.Values.{whole};
 ghost use Rattle.sp_base.specs.Fields.{fields};
-ghost use Rattle.sp_command.specs.Commands.{only, is_model_file, count_of, rule_for, pool_value, limit_value, pool_setting, limit_setting, mip_setting, ends_with, tree_file, setting_of, display_of};
+ghost use Rattle.sp_command.specs.Commands.{only, most, is_model_file, count_of, rule_for, pool_value, limit_value, pool_setting, limit_setting, mip_setting, ends_with, tree_file, setting_of, display_of};
 
 use crate::commands::{Setting, Shown};
 use crate::keywords::{Group, LimitKey, PoolKey};
@@ -64,7 +65,8 @@ pub(crate) fn tail(text: &[u8], place: usize) -> &[u8]
 
 /// The number of an nbest command.
 pub(crate) fn count(rest: &[u8]) -> Option<u32>
-    ensures { result ≡ count_of (fields rest.now) }
+    ensures value { result ≡ count_of (fields rest.now) }
+    ensures lawful { IfSome result (IsFromTo 1 most) }
 {
     match only_field(rest) {
         None => None,
@@ -73,11 +75,12 @@ pub(crate) fn count(rest: &[u8]) -> Option<u32>
 }
 
 /// A whole number of 32 bits.
-fn small(least: u64, most: u64, word: &[u8]) -> Option<u32>
-    requires { most < 2 ^ 32 }
-    ensures { result ≡ whole least most word.now }
+fn small(least: u64, greatest: u64, word: &[u8]) -> Option<u32>
+    requires { greatest < 2 ^ 32 }
+    ensures value { result ≡ whole least greatest word.now }
+    ensures inside { IfSome result (IsFromTo least greatest) }
 {
-    match whole_number(least, most, word) {
+    match whole_number(least, greatest, word) {
         None => None,
         Some(n) => Some(n as u32),
     }
@@ -102,7 +105,8 @@ fn rule(n: u32) -> Rule
 
 /// A setting of the pool.
 fn pool_setting_at(key: PoolKey, word: &[u8]) -> Option<Setting>
-    ensures { result ≡ pool_value key word.now }
+    ensures value { result ≡ pool_value key word.now }
+    ensures lawful { IfSome result IsLawfulSetting }
 {
     match key {
         PoolKey::AbsGap => match gap(word) {
@@ -130,7 +134,8 @@ fn pool_setting_at(key: PoolKey, word: &[u8]) -> Option<Setting>
 
 /// A limit.
 fn limit_setting_at(key: LimitKey, word: &[u8]) -> Option<Setting>
-    ensures { result ≡ limit_value key word.now }
+    ensures value { result ≡ limit_value key word.now }
+    ensures lawful { IfSome result IsLawfulSetting }
 {
     match key {
         LimitKey::Populate => match small(1, MOST, word) {
@@ -145,7 +150,8 @@ fn limit_setting_at(key: LimitKey, word: &[u8]) -> Option<Setting>
 }
 
 fn pool_words(tables: &Tables, rest: &[u8]) -> Option<Setting>
-    ensures { result ≡ pool_setting (fields rest.now) }
+    ensures value { result ≡ pool_setting (fields rest.now) }
+    ensures lawful { IfSome result IsLawfulSetting }
 {
     match next_field(rest) {
         None => None,
@@ -160,7 +166,8 @@ fn pool_words(tables: &Tables, rest: &[u8]) -> Option<Setting>
 }
 
 fn limit_words(tables: &Tables, rest: &[u8]) -> Option<Setting>
-    ensures { result ≡ limit_setting (fields rest.now) }
+    ensures value { result ≡ limit_setting (fields rest.now) }
+    ensures lawful { IfSome result IsLawfulSetting }
 {
     match next_field(rest) {
         None => None,
@@ -175,7 +182,8 @@ fn limit_words(tables: &Tables, rest: &[u8]) -> Option<Setting>
 }
 
 fn mip_words(tables: &Tables, rest: &[u8]) -> Option<Setting>
-    ensures { result ≡ mip_setting (fields rest.now) }
+    ensures value { result ≡ mip_setting (fields rest.now) }
+    ensures lawful { IfSome result IsLawfulSetting }
 {
     match next_field(rest) {
         None => None,
@@ -189,7 +197,8 @@ fn mip_words(tables: &Tables, rest: &[u8]) -> Option<Setting>
 
 /// The setting of a set command.
 pub(crate) fn setting(tables: &Tables, rest: &[u8]) -> Option<Setting>
-    ensures { result ≡ setting_of (fields rest.now) }
+    ensures value { result ≡ setting_of (fields rest.now) }
+    ensures lawful { IfSome result IsLawfulSetting }
 {
     match next_field(rest) {
         None => None,

@@ -1,3 +1,4 @@
+pub mod BestLemmas
 pub mod LineLemmas
 pub mod RankLemmas
 pub mod SweepLemmas

@@ -17,19 +17,19 @@ use Rattle.sp_pool.specs.InnerRanks.{placed, by_rank, is_lesser, is_up_to, at_ke
 
 -- ---- values
 
-le_true : (a b : ℤ) → int_le a b ≡ true → a ≤ℤ b
+pub le_true : (a b : ℤ) → int_le a b ≡ true → a ≤ℤ b
 le_true a b h = grind (arith, ints)
 
-le_false : (a b : ℤ) → int_le a b ≡ false → b <ℤ a
+pub le_false : (a b : ℤ) → int_le a b ≡ false → b <ℤ a
 le_false a b h = grind (arith, ints)
 
-le_test : (a b : ℤ) → a ≤ℤ b → int_le a b ≡ true
+pub le_test : (a b : ℤ) → a ≤ℤ b → int_le a b ≡ true
 le_test a b h = grind (arith, ints)
 
-lt_test : (a b : ℤ) → b <ℤ a → int_le a b ≡ false
+pub lt_test : (a b : ℤ) → b <ℤ a → int_le a b ≡ false
 lt_test a b h = grind (arith, ints)
 
-le_chain : (a b c : ℤ) → int_le a b ≡ true → int_le b c ≡ true → int_le a c ≡ true
+pub le_chain : (a b c : ℤ) → int_le a b ≡ true → int_le b c ≡ true → int_le a c ≡ true
 le_chain a b c h k = let x = le_true a b h in let y = le_true b c k in le_test a c (omega (arith, ints))
 
 -- ---- a member that comes last

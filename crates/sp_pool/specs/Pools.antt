@@ -1,5 +1,5 @@
 -- A bounded pool of found points: its list of members, and what each event makes of it.
-use Rattle.std.specs.Prelude.{ℕ, zero, suc, ◌-◌, ◌+◌, min, ◌≤◌, ◌^◌, Bool, true, not, ◌&&◌, ◌==◌, nat_lt, cond, List, [], ◌∷◌, ◌++◌, length, drop, filter, All, Option, None, Some, ℤ, int_le, unsigned_abs}
+use Rattle.std.specs.Prelude.{◌≡◌, ◌≤ℤ◌, ◌<ℤ◌, ℕ, zero, suc, ◌-◌, ◌+◌, min, ◌≤◌, ◌^◌, Bool, true, not, ◌&&◌, ◌==◌, nat_lt, cond, List, [], ◌∷◌, ◌++◌, length, drop, filter, All, Option, None, Some, ℤ, int_le, unsigned_abs}
 use Rattle.std.specs.Int.{int_min}
 use Rattle.std.specs.List.{list_any}
 use Rattle.sp_model.specs.declared.gaps.Gap.TheVariants.{Unlimited}
@@ -179,3 +179,34 @@ NeedsNoMemory p (Ruling rule) = Unit {0}
 NeedsNoMemory p (Gapping gaps) = Unit {0}
 NeedsNoMemory p (Retaining serials) = ⊥
 NeedsNoMemory p (Refreshing offers) = HasRoomFor p (length offers)
+
+-- ---- what a pool under Worst holds
+
+-- a pool after a list of offers, in order
+abbrev pub after_offers : PoolState → List Offered → PoolState
+after_offers s [] = s
+after_offers s (o ∷ os) = after_offers (after_offer s o) os
+
+-- members, and an offer behind them where it passes and isn't above the cut; of these, those that aren't above it
+abbrev pub lasting_one : ℤ → List Member → Offered → List Member
+lasting_one cut ms o = cond (o.passes && int_le o.value cut) (within cut ms ++ member_of o ∷ []) (within cut ms)
+
+-- what a pool with room for all would hold after offers: the members and the offers that pass, without each one that was above
+-- the cut at its own time or later
+abbrev pub lasting : PoolState → List Member → List Offered → List Member
+lasting s ms [] = ms
+lasting s ms (o ∷ os) = lasting (after_offer s o) (lasting_one (cut_at s (best_with s.best o.value)) ms o) os
+
+-- the best so many: while there are more, the worst one is dropped
+abbrev pub best_of : ℕ → List Member → List Member
+best_of count ms = without Worst (length ms - count) ms
+
+-- one member less: the one that is gone has a value as great as any before it, and greater than any behind it
+pub record IsWithoutWorst (ms left : List Member) : Type 0 where
+  pub before : List Member
+  pub worst : Member
+  pub behind : List Member
+  pub is : ms ≡ before ++ worst ∷ behind
+  pub left_is : left ≡ before ++ behind
+  pub none_greater : All (λ m. m.value ≤ℤ worst.value) before
+  pub less_behind : All (λ m. m.value <ℤ worst.value) behind

@@ -11,5 +11,5 @@ mod rankings;
 
 pub use events::PoolEvent;
 pub use members::{Member, Offered, Rule};
-pub use pool_laws::pool_is_never_overfull;
+pub use pool_laws::{pool_is_never_overfull, worst_holds_the_best, worst_is_the_last_greatest};
 pub use pools::Pool;

@@ -1,5 +1,5 @@
 -- What the parts of a command promise.
-use Rattle.std.specs.Prelude.{◌≡◌, ℕ, ◌^◌, ◌≤◌, true, length, All, ℤ, unsigned_abs}
+use Rattle.std.specs.Prelude.{◌≡◌, ℕ, ◌^◌, ◌≤◌, true, length, All, unsigned_abs}
 use Rattle.sp_model.specs.Cuts.{IsGap}
 use Rattle.sp_command.specs.declared.commands.Command.{Command}
 use Rattle.sp_command.specs.declared.commands.Command.TheVariants.{Read, Optimize, Populate, NBest, Set, FilterRange, FilterDiversity, FilterDelete, Display, WriteTree, Quit, Blank}

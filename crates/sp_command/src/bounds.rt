@@ -27,7 +27,7 @@ pub(crate) fn lower_bound(word: &[u8]) -> Option<Option<Decimal>>
                     Some(Some(*d))
                 }
             }
-            Numeral::Huge { negative } => { if *negative { Some(None) } else { None } }
+            Numeral::Huge { negative } => unbounded(*negative),
         },
         Err(_) => None,
     }
@@ -47,7 +47,7 @@ pub(crate) fn upper_bound(word: &[u8]) -> Option<Option<Decimal>>
                     Some(Some(*d))
                 }
             }
-            Numeral::Huge { negative } => { if *negative { None } else { Some(None) } }
+            Numeral::Huge { negative } => unbounded(!*negative),
         },
         Err(_) => None,
     }

@@ -1,18 +1,16 @@
 -- What Worst leaves is the best.
-use Rattle.std.proofs.Common.{◌≡◌, ℕ, zero, suc, ◌+◌, ◌-◌, ◌<◌, ◌≤◌, min, Bool, true, false, not, ◌||◌, ◌&&◌, cond, ltb, eqb, List, [], ◌∷◌, ◌++◌, length, filter, get_or, Option, Some, None, ℤ, ◌≤ℤ◌, ◌<ℤ◌, int_le, refl, sym, ap, ◌∙◌, subst, inl, inr, arith, length-append}
+use Rattle.std.proofs.Common.{◌≡◌, ℕ, zero, suc, ◌+◌, ◌-◌, ◌<◌, ◌≤◌, min, Bool, true, false, not, ◌||◌, ◌&&◌, cond, List, [], ◌∷◌, ◌++◌, length, ℤ, ◌≤ℤ◌, ◌<ℤ◌, int_le, refl, sym, ap, ◌∙◌, inl, inr, arith, length-append}
 use Rattle.std.proofs.lemmas.Bool.{cases_Bool, cases_lt, cond-true, cond-false}
-use Rattle.std.proofs.lemmas.Bool.Decides.{nat_tests}
 use Rattle.std.proofs.lemmas.Int.{ints}
 use Rattle.std.specs.Prelude.{All}
 use Rattle.std.proofs.lemmas.List.Elements.{All-nil, All-cons, All-head, All-tail}
 use Rattle.std.specs.List.{list_any}
 use Rattle.sp_pool.specs.declared.members.Member.{Member}
 use Rattle.sp_pool.specs.declared.members.Offered.{Offered}
-use Rattle.sp_pool.specs.declared.members.Rule.{Rule}
 use Rattle.sp_pool.specs.declared.members.Rule.TheVariants.{Worst}
-use Rattle.sp_pool.specs.Pools.{PoolState, is_above, within, without_worst, without_one, makes_way, admitted, without, taken, cut_at, best_with, member_of, offered_at, after_offer, after_offers, lasting, lasting_one, best_of, IsWithoutWorst}
-use Rattle.sp_pool.proofs.RankLemmas.{le_true, le_false, le_test, lt_test, le_chain, filter_yes, filter_no, no_either, either_back, worst_shorter, above_more, above_none}
-use Rattle.sp_pool.proofs.PoolLemmas.{filter_shorter, one_shorter, admitted_room, admitted_full, without_few}
+use Rattle.sp_pool.specs.Pools.{PoolState, is_above, within, without_worst, admitted, without, taken, cut_at, best_with, member_of, after_offer, after_offers, lasting, lasting_one, best_of, IsWithoutWorst}
+use Rattle.sp_pool.proofs.RankLemmas.{le_true, le_false, le_test, lt_test, no_either, either_back, worst_shorter, above_more, above_none}
+use Rattle.sp_pool.proofs.PoolLemmas.{filter_shorter, admitted_room, admitted_full, without_few}
 
 -- ---- an appended member
 

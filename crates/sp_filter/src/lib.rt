@@ -1,0 +1,12 @@
+//! Range and diversity filters on points and boxes.
+#![tactic(auto)]
+
+mod drafting;
+mod holding;
+mod ids;
+mod kinds;
+
+pub use drafting::FilterDraft;
+pub use holding::{Filters, Held};
+pub use ids::FilterId;
+pub use kinds::Filter;

@@ -1,0 +1,11 @@
+pub mod AskedLemmas
+pub mod ColumnLemmas
+pub mod FlagLemmas
+pub mod KeptLemmas
+pub mod LawLemmas
+pub mod MakeLemmas
+pub mod MemberLemmas
+pub mod MoveLemmas
+pub mod ProductLemmas
+pub mod SpanLemmas
+pub mod UpperLemmas

@@ -33,7 +33,7 @@ impl VarId {
 }
 
 /// A row, by its place among the rows, from 0.
-#[derive(Clone, Copy, PartialEq, Eq, PartialOrd, Ord, Debug)]
+#[derive(Clone, Copy, PartialEq, Eq, PartialOrd, Ord, Default, Debug)]
 pub struct RowId(u32);
 
 impl Model for RowId {

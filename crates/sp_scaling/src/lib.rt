@@ -1,0 +1,8 @@
+//! Sums of decimal terms in whole units of a power of ten: their scale, their size, and one variable's terms added up.
+#![tactic(auto)]
+
+mod collecting;
+mod scaling;
+
+pub use collecting::collected;
+pub use scaling::{is_narrow, most_places, most_places_of, room_beside};

@@ -10,7 +10,7 @@ use Rattle.std.proofs.lemmas.List.Sums.{sum_by-cons}
 use Rattle.std.proofs.lemmas.List.Sorted.{sum_by-IsPermutation, IsPermutation-sym, All-permutation}
 use Rattle.sp_model.specs.Models.{is_nonzero}
 use Rattle.sp_model.specs.Sums.{Term}
-use Rattle.sp_scaling.specs.Scaling.{coefficient, past, collected}
+use Rattle.sp_scaling.specs.Scaling.{coefficient, past, collected, turned_terms}
 use Rattle.sp_scaling.specs.Merging.{emitted, merged}
 
 pub if-ok-list : {A E : Type 0} (r : Result A E) (m n : A) → m ≡ n → IfOk r (λ x. x ≡ m) → IfOk r (λ x. x ≡ n)
@@ -212,3 +212,9 @@ merged-collected (t ∷ ts) h =
     let bound : past (t ∷ ts) ≤ 0 + past (t ∷ ts) = omega arith in
     merged-span (t ∷ ts) 0 (pos 0) (past (t ∷ ts)) (rising-from 0 (t ∷ ts) (λ i d l. omega arith) h) bound some
     ∙ span-agree 0 (past (t ∷ ts)) ((0, pos 0) ∷ t ∷ ts) (t ∷ ts) (λ i _. no-first (0 == i) (coefficient (t ∷ ts) i))
+
+-- not turned, the terms stay
+pub turned-plain : (negate : Bool) (ts : List Term) → negate ≡ false → turned_terms negate ts ≡ ts
+turned-plain true ts h = cc
+turned-plain false [] h = refl
+turned-plain false (t ∷ ts) h = ap (λ us. t ∷ us) (turned-plain false ts h)

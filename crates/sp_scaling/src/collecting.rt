@@ -1,5 +1,5 @@
 //! The terms of one variable added up.
-ghost use Rattle.std.specs.Prelude.{◌≡◌, ◌<◌, ◌≤◌, ◌^◌, ◌++◌, pos, unsigned_abs, IfOk, OnOk};
+ghost use Rattle.std.specs.Prelude.{◌≡◌, ◌<◌, ◌≤◌, ◌^◌, ◌++◌, pos, unsigned_abs, false, IfOk, OnOk};
 ghost use Rattle.std.specs.List.Sorted.{IsPermutation, IsNonDecreasingBy};
 ghost use Rattle.sp_decimal.specs.DecimalFraction.{most_places as limit_of_places};
 ghost use Rattle.sp_scaling.specs.Merging.{emitted, merged};
@@ -113,7 +113,8 @@ pub fn collected(
     requires scale { most_places_of (numbers_of terms.now) ≤ places }
     requires places { places ≤ limit_of_places }
     requires small { size_of (scaled places terms.now) ≤ greatest_width }
-    ensures { IfOk result (λ sums. sums ≡ turned_terms negate (collected (scaled places terms.now))) }
+    ensures value { IfOk result (λ sums. sums ≡ turned_terms negate (collected (scaled places terms.now))) }
+    ensures plain { negate ≡ false → IfOk result (λ sums. sums ≡ collected (scaled places terms.now)) }
 {
     let mut list = scaled(alloc, terms, places)?;
     sort(&mut list);

@@ -5,6 +5,9 @@ mod drafting;
 mod holding;
 mod ids;
 mod kinds;
+mod sums;
+mod terms;
+mod widths;
 
 pub use drafting::FilterDraft;
 pub use holding::{Filters, Held};

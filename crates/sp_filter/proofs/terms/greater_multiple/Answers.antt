@@ -1,0 +1,8 @@
+use Rattle.std.proofs.Common.{◌*ℤ◌}
+use Rattle.sp_filter.proofs.TermLemmas.{greater_is}
+use Rattle.sp_filter.proofs.terms.greater_multiple.Goals as goal
+
+pub returns : goal.returns
+returns c =
+    greater_is (c.args.a.now *ℤ c.args.ends.now.0) (c.args.a.now *ℤ c.args.ends.now.1) _ _ _ c.product.ensures c.product-2.ensures
+    c.requires.low c.requires.high c.max.ensures.value

@@ -1,7 +1,7 @@
 -- What the command that lists the solutions says of a run that was solved.
-use Rattle.std.specs.Prelude.{map, filter, All, IfSome, ℤ, ◌^◌, unsigned_abs}
+use Rattle.std.specs.Prelude.{map, All, IfSome, ℤ, ◌^◌, unsigned_abs}
 use Rattle.std.specs.List.{AllByRecursion}
-use Rattle.std.proofs.Common.{◌≡◌, ℕ, zero, suc, ◌+◌, ◌≤◌, List, [], ◌∷◌, ◌++◌, length, Option, Some, refl, sym, ap, ◌∙◌, subst, arith, length-append, append_assoc}
+use Rattle.std.proofs.Common.{◌≡◌, ℕ, zero, suc, ◌+◌, ◌≤◌, List, [], ◌∷◌, ◌++◌, length, Option, refl, sym, ap, ◌∙◌, subst, arith, length-append, append_assoc}
 use Rattle.std.proofs.Math.Seq.{get_or-append_seam}
 use Rattle.std.proofs.lemmas.List.{length-map}
 use Rattle.std.proofs.lemmas.List.Elements.{All-from_recursion}
@@ -9,7 +9,7 @@ use Rattle.sp_model.specs.declared.found.Found.{Found}
 use Rattle.sp_model.specs.declared.gaps.Gaps.{Gaps}
 use Rattle.sp_model.specs.declared.parts.ModelParts.{ModelParts}
 use Rattle.sp_model.specs.Models.{root_of}
-use Rattle.sp_model.specs.Lists.{IsListAt, points_of}
+use Rattle.sp_model.specs.Lists.{points_of}
 use Rattle.sp_engine.specs.declared.journals.Entry.{Entry}
 use Rattle.sp_engine.specs.declared.journals.Entry.TheVariants as entry
 use Rattle.sp_engine.specs.declared.journals.RunEnd.{RunEnd}
@@ -17,13 +17,13 @@ use Rattle.sp_engine.specs.declared.journals.RunEnd.TheVariants as end
 use Rattle.sp_engine.specs.declared.replies.Reply.{Reply}
 use Rattle.sp_engine.specs.declared.runs.Listing.{Listing}
 use Rattle.sp_engine.specs.declared.solving.Solved.{Solved}
-use Rattle.sp_engine.specs.InnerSolving.{EndsWith, HasList, IsSolved}
+use Rattle.sp_engine.specs.InnerSolving.{EndsWith, IsSolved}
 use Rattle.sp_engine.specs.LegalRuns.{Asked, IsLegalRun, asked_of, first_run, first_settings, no_gap}
-use Rattle.sp_engine.specs.Listing.{IsSerial, RepliesAfter, SaysList, after_run, serials_from}
+use Rattle.sp_engine.specs.Listing.{IsSerial, RepliesAfter, after_run, serials_from}
 use Rattle.sp_engine.specs.Notes.{run_notes}
 use Rattle.sp_engine.specs.Runs.{IsListing, IsSmall, reply_of}
 use Rattle.sp_engine.specs.SolutionLists.{Lists}
-use Rattle.sp_engine.specs.Views.{Filter, Named, Settings, View, passes, point_of}
+use Rattle.sp_engine.specs.Views.{Filter, Named, Settings, View, point_of}
 
 points_noted : (fs : List Found) → map (λ f. entry.Found f.point) fs ≡ map entry.Found (points_of fs)
 points_noted [] = refl
@@ -59,19 +59,13 @@ all_serials : (bound first count : ℕ) → 1 ≤ first → first + count ≤ bo
 all_serials bound first zero low high = tt
 all_serials bound first (suc count) low high = (record { first = low; last = omega arith }, all_serials bound (suc first) count (omega arith) (omega arith))
 
--- without filters all points pass
-all_pass : (xs : List (List ℤ)) → filter (passes []) xs ≡ xs
-all_pass [] = refl
-all_pass (x ∷ xs) = ap (λ ys. x ∷ ys) (all_pass xs)
-
 lists_fit : (m : ModelParts) (best : Option ℤ) (found all : List (List ℤ)) (gaps : Gaps) (filters : List Filter) (serials : List ℕ)
-    → gaps ≡ no_gap → filters ≡ [] → all ≡ found → serials ≡ serials_from 1 (length found) → HasList m best found → Lists m gaps filters best (map (point_of all) serials)
-lists_fit m best found all gaps filters serials g f a s h = record {
-  optimum = h.optimum;
-  whole = found;
-  listed = subst (λ gs. IsListAt m gs best found) (sym g) h.listed;
-  filtered = ap (λ xs. map (point_of xs) serials) a ∙ ap (map (point_of found)) s ∙ serial_points [] found ∙ sym (ap (λ fs. filter (passes fs) found) f ∙ all_pass found);
-}
+    → gaps ≡ no_gap → filters ≡ [] → all ≡ found → serials ≡ serials_from 1 (length found) → Lists m no_gap [] best found
+    → Lists m gaps filters best (map (point_of all) serials)
+lists_fit m best found all gaps filters serials g f a s h =
+    subst (λ gs. Lists m gs filters best (map (point_of all) serials)) (sym g)
+    (subst (λ fs. Lists m no_gap fs best (map (point_of all) serials)) (sym f)
+    (subst (Lists m no_gap [] best) (sym (ap (λ xs. map (point_of xs) serials) a ∙ ap (map (point_of found)) s ∙ serial_points [] found)) h))
 
 serials_fit : (found all : List (List ℤ)) (serials : List ℕ) → all ≡ found → serials ≡ serials_from 1 (length found) → All (IsSerial (length all)) serials
 serials_fit found all serials a s =
@@ -121,9 +115,7 @@ is_listing names m s l serials notes solved named ns ms replied counted noted en
   small = subst IsSmall (sym replied) (small_reply s.end s.best serials s.nodes solved.small);
   found = points_of s.listed.items;
   nodes = s.nodes;
-  says = λ view model settings filters found nodes. record {
-    named = record { names = names; parts = m };
-    model_is = model;
+  says = λ view settings filters found nodes. record {
     found = points_of s.listed.items;
     ended = s.end;
     nodes = s.nodes;

@@ -1,5 +1,5 @@
 -- Which notes of a journal are the first command's.
-use Rattle.std.proofs.Common.{◌≡◌, ℕ, suc, List, [], ◌∷◌, ◌++◌, length, refl, sym, ap, ◌∙◌}
+use Rattle.std.proofs.Common.{◌≡◌, ℕ, suc, List, [], ◌∷◌, ◌++◌, length, Option, None, Some, refl, sym, ap, ◌∙◌}
 use Rattle.std.specs.Prelude.{ℤ}
 use Rattle.sp_engine.specs.declared.commands.Command.{Command}
 use Rattle.sp_engine.specs.declared.commands.Command.TheVariants as command
@@ -9,7 +9,8 @@ use Rattle.sp_engine.specs.declared.journals.RunEnd.{RunEnd}
 use Rattle.sp_engine.specs.declared.replies.Reply.{Reply}
 use Rattle.sp_engine.specs.Notes.{run_notes}
 use Rattle.sp_engine.specs.Sessions.{Says, end_of_run, share_of}
-use Rattle.sp_engine.specs.Views.{View}
+use Rattle.sp_engine.specs.Listing.{SaysList}
+use Rattle.sp_engine.specs.Views.{Named, View}
 
 -- a run's notes end with the first note that ends a run
 run_ends : (found : List (List ℤ)) (ended : RunEnd) (nodes : ℕ) (rest : List Entry) → end_of_run (run_notes found ended nodes ++ rest) ≡ length (run_notes found ended nodes)
@@ -18,5 +19,8 @@ run_ends (x ∷ xs) ended nodes rest = ap suc (run_ends xs ended nodes rest)
 
 pub one_division : (view after : View) (c : Command) (notes rest : List Entry) (r : Reply) → Says view c notes r after → share_of c (notes ++ rest) ≡ length notes
 one_division view after (command.Read name) notes rest r says = sym (ap length says.noted)
-one_division view after command.List notes rest r says =
-    ap (λ es. end_of_run (es ++ rest)) says.noted ∙ run_ends says.found says.ended says.nodes rest ∙ sym (ap length says.noted)
+one_division view after command.List notes rest r says = by view.model says
+  where
+    by : (model : Option Named) → SaysList model view notes r after → end_of_run (notes ++ rest) ≡ length notes
+    by None lists = absurd lists
+    by (Some named) lists = ap (λ es. end_of_run (es ++ rest)) lists.noted ∙ run_ends lists.found lists.ended lists.nodes rest ∙ sym (ap length lists.noted)

@@ -1,26 +1,31 @@
 -- What a run of a model gives.
-use Rattle.std.specs.Prelude.{ℤ, ◌≤ℤ◌, ◌^◌, ◌*◌, unsigned_abs, IfSome}
-use Rattle.std.proofs.Common.{◌≡◌, ℕ, zero, suc, refl, ◌+◌, ◌<◌, ◌≤◌, List, [], length, get_or, None, Some, sym, ap, ◌∙◌, subst, arith}
+use Rattle.std.specs.Prelude.{ℤ, ◌≤ℤ◌, ◌^◌, ◌*◌, ◌∷◌, filter, unsigned_abs, IfSome}
+use Rattle.std.proofs.Common.{◌≡◌, ℕ, zero, suc, refl, ◌+◌, ◌<◌, ◌≤◌, List, [], length, get_or, Option, None, Some, sym, ap, ◌∙◌, subst, arith}
 use Rattle.std.proofs.lemmas.List.Elements.{All-contains_itself}
 use Rattle.std.proofs.lemmas.Map.Keys.{IsDistinct-from_sorted}
 use Rattle.sp_model.specs.declared.gaps.Gap.{Gap}
 use Rattle.sp_model.specs.declared.gaps.Gap.TheVariants as gap
 use Rattle.sp_model.specs.declared.gaps.Gaps.{Gaps}
 use Rattle.sp_model.specs.declared.parts.ModelParts.{ModelParts}
-use Rattle.sp_model.specs.Boxes.{room}
+use Rattle.sp_model.specs.Boxes.{IsWithin, room}
 use Rattle.sp_model.specs.Cuts.{cut_of}
-use Rattle.sp_model.specs.Models.{IsLeast, IsOptimum, objective}
+use Rattle.sp_model.specs.Models.{IsLeast, IsOptimum, objective, root_of}
 use Rattle.sp_model.specs.Lists.{point_cmp, points_of, IsFoundList, IsKept, IsList}
 use Rattle.sp_model.specs.Rules.{IsLawful}
-use Rattle.sp_model.proofs.AnswerLemmas.{one_optimum}
-use Rattle.sp_model.proofs.FoundLemmas.{small_objective}
 use Rattle.sp_model.proofs.ListLemmas.{points_total}
 use Rattle.sp_model.proofs.MemberLemmas.{pairs_from_distinct}
 use Rattle.sp_engine.specs.declared.journals.RunEnd.{RunEnd}
 use Rattle.sp_engine.specs.declared.journals.RunEnd.TheVariants as end
 use Rattle.sp_engine.specs.declared.solving.Solved.{Solved}
 use Rattle.sp_engine.specs.LegalRuns.{IsLegalRun, IsTreeFull, no_gap, room_of, node_limit, first_run}
-use Rattle.sp_engine.specs.InnerSolving.{EndsWith, HasList, IsSolved}
+use Rattle.sp_engine.specs.InnerSolving.{EndsWith, IsSolved}
+use Rattle.sp_engine.specs.SolutionLists.{Lists}
+use Rattle.sp_engine.specs.Views.{passes}
+
+-- without filters all points pass
+all_pass : (xs : List (List ℤ)) → filter (passes []) xs ≡ xs
+all_pass [] = refl
+all_pass (x ∷ xs) = ap (λ ys. x ∷ ys) (all_pass xs)
 
 -- the room of a box is odd
 room_odd : (n : ℕ) → (half : ℕ) × (room n ≡ 2 * half + 1)
@@ -34,10 +39,17 @@ odd_nodes n nodes e = ((room_odd n).0, e ∙ (room_odd n).1)
 some_nodes : {nodes : ℕ} → (half : ℕ) × (nodes ≡ 2 * half + 1) → 1 ≤ nodes
 some_nodes odd = omega (arith, odd.1)
 
+-- what the laws of models say: one number is the optimum, and no point has a large objective
+abbrev pub OneOptimum : Type 0
+OneOptimum = (m : ModelParts) (best other : Option ℤ) → IsOptimum m best → IsOptimum m other → best ≡ other
+
+abbrev pub SmallObjectives : Type 0
+SmallObjectives = (m : ModelParts) (x : List ℤ) → IsLawful m → IsWithin (root_of m) x → unsigned_abs (objective m x) ≤ 10 ^ 36
+
 -- a complete list is legal
-legal_list : (m : ModelParts) (best : ℤ) (found : List (List ℤ)) (nodes : ℕ) → IsLeast m best → IsList m (cut_of best no_gap m.scale) found → nodes ≡ room_of m
+legal_list : (m : ModelParts) (best : ℤ) (found : List (List ℤ)) (nodes : ℕ) → OneOptimum → IsLeast m best → IsList m (cut_of best no_gap m.scale) found → nodes ≡ room_of m
     → IsLegalRun (first_run m) found end.Done nodes
-legal_list m best found nodes least list e = record {
+legal_list m best found nodes one least list e = record {
   feasible = λ k d h. (kept k d h).feasible;
   passing = λ k d h. refl;
   once = pairs_from_distinct (points_total m) found (IsDistinct-from_sorted (point_cmp m) found list.ascending);
@@ -52,7 +64,7 @@ legal_list m best found nodes least list e = record {
     kept k d h = (list.exact (get_or found k d)).0 (All-contains_itself found k d h)
 
     same : (other : ℤ) → IsLeast m other → best ≡ other
-    same other l = some_same (one_optimum m (Some best) (Some other) least l)
+    same other l = some_same (one m (Some best) (Some other) least l)
       where
         some_same : Some best ≡ Some other → best ≡ other
         some_same h = cc
@@ -77,7 +89,7 @@ legal_none m ended nodes full whole odd bounded = record {
 -- no point is feasible
 pub solved_none : (m : ModelParts) (s : Solved) → s.best ≡ None → s.listed.items ≡ [] → s.end ≡ end.Done → s.nodes ≡ room_of m → IsOptimum m None → IsSolved m s
 solved_none m s b l e n none = record {
-  answer = subst (λ ended. EndsWith m ended s.best (points_of s.listed.items)) (sym e) (subst (λ best. HasList m best (points_of s.listed.items)) (sym b) empty);
+  answer = subst (λ ended. EndsWith m ended s.best (points_of s.listed.items)) (sym e) (subst (λ best. Lists m no_gap [] best (points_of s.listed.items)) (sym b) empty);
   small = subst (λ o. IfSome o (λ v. unsigned_abs v ≤ 10 ^ 36)) (sym b) tt;
   legal = subst (λ xs. IsLegalRun (first_run m) (points_of xs) s.end s.nodes) (sym l) (legal_none m s.end s.nodes (λ h. absurd (ended h)) (λ _. n) (odd_nodes _ s.nodes n) (omega (arith, n)));
 }
@@ -85,20 +97,20 @@ solved_none m s b l e n none = record {
     ended : s.end ≡ end.NodeLimit → ⊥
     ended h = cc
 
-    empty : HasList m None (points_of s.listed.items)
-    empty = record { optimum = none; listed = ap points_of l }
+    empty : Lists m no_gap [] None (points_of s.listed.items)
+    empty = record { optimum = none; whole = points_of s.listed.items; listed = ap points_of l; filtered = sym (all_pass (points_of s.listed.items)) }
 
 -- the list at the optimum
-pub solved_list : (m : ModelParts) (s : Solved) (best : ℤ) → s.best ≡ Some best → s.end ≡ end.Done → s.nodes ≡ room_of m → unsigned_abs best ≤ 10 ^ 36 → IsLeast m best
+pub solved_list : (m : ModelParts) (s : Solved) (best : ℤ) → OneOptimum → s.best ≡ Some best → s.end ≡ end.Done → s.nodes ≡ room_of m → unsigned_abs best ≤ 10 ^ 36 → IsLeast m best
     → IsFoundList m (cut_of best no_gap m.scale) s.listed.items → IsSolved m s
-solved_list m s best b e n small least list = record {
-  answer = subst (λ ended. EndsWith m ended s.best (points_of s.listed.items)) (sym e) (subst (λ o. HasList m o (points_of s.listed.items)) (sym b) whole);
+solved_list m s best one b e n small least list = record {
+  answer = subst (λ ended. EndsWith m ended s.best (points_of s.listed.items)) (sym e) (subst (λ o. Lists m no_gap [] o (points_of s.listed.items)) (sym b) whole);
   small = subst (λ o. IfSome o (λ v. unsigned_abs v ≤ 10 ^ 36)) (sym b) small;
-  legal = subst (λ ended. IsLegalRun (first_run m) (points_of s.listed.items) ended s.nodes) (sym e) (legal_list m best (points_of s.listed.items) s.nodes least list.points n);
+  legal = subst (λ ended. IsLegalRun (first_run m) (points_of s.listed.items) ended s.nodes) (sym e) (legal_list m best (points_of s.listed.items) s.nodes one least list.points n);
 }
   where
-    whole : HasList m (Some best) (points_of s.listed.items)
-    whole = record { optimum = least; listed = list.points }
+    whole : Lists m no_gap [] (Some best) (points_of s.listed.items)
+    whole = record { optimum = least; whole = points_of s.listed.items; listed = list.points; filtered = sym (all_pass (points_of s.listed.items)) }
 
 -- the node limit stopped the run
 pub solved_stopped : (m : ModelParts) (s : Solved) → s.best ≡ None → s.listed.items ≡ [] → s.end ≡ end.NodeLimit → s.nodes ≡ 199999 → node_limit < room_of m → IsSolved m s
@@ -119,6 +131,6 @@ pub gaps_are : (g : Gaps) → g.abs ≡ gap.Of 0 0 → g.rel ≡ gap.Unlimited �
 gaps_are g a r = ap (λ x. gaps_of x g.rel) a ∙ ap (gaps_of (gap.Of 0 0)) r
 
 -- the optimum is small
-pub small_best : (m : ModelParts) (best : ℤ) → IsLawful m → IsLeast m best → unsigned_abs best ≤ 10 ^ 36
-small_best m best lawful least =
-    subst (λ v. unsigned_abs v ≤ 10 ^ 36) least.reached.2 (small_objective m least.reached.0 lawful least.reached.1.within)
+pub small_best : (m : ModelParts) (best : ℤ) → SmallObjectives → IsLawful m → IsLeast m best → unsigned_abs best ≤ 10 ^ 36
+small_best m best small lawful least =
+    subst (λ v. unsigned_abs v ≤ 10 ^ 36) least.reached.2 (small m least.reached.0 lawful least.reached.1.within)

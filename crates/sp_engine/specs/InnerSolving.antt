@@ -1,21 +1,16 @@
 -- What a run of a model gives.
-use Rattle.std.specs.Prelude.{◌^◌, ◌≤◌, List, Option, IfSome, ℤ, unsigned_abs}
+use Rattle.std.specs.Prelude.{◌^◌, ◌≤◌, List, [], Option, IfSome, ℤ, unsigned_abs}
 use Rattle.sp_model.specs.declared.parts.ModelParts.{ModelParts}
-use Rattle.sp_model.specs.Models.{IsOptimum}
-use Rattle.sp_model.specs.Lists.{IsListAt, points_of}
+use Rattle.sp_model.specs.Lists.{points_of}
 use Rattle.sp_engine.specs.declared.journals.RunEnd.{RunEnd}
 use Rattle.sp_engine.specs.declared.journals.RunEnd.TheVariants as end
 use Rattle.sp_engine.specs.declared.solving.Solved.{Solved}
 use Rattle.sp_engine.specs.LegalRuns.{IsLegalRun, first_run, no_gap}
-
--- the optimum and the list
-pub record HasList (m : ModelParts) (best : Option ℤ) (points : List (List ℤ)) : Type 0 where
-  pub optimum : IsOptimum m best
-  pub listed : IsListAt m no_gap best points
+use Rattle.sp_engine.specs.SolutionLists.{Lists}
 
 -- what is known after a run that ended so
 abbrev pub EndsWith : ModelParts → RunEnd → Option ℤ → List (List ℤ) → Type 0
-EndsWith m end.Done best points = HasList m best points
+EndsWith m end.Done best points = Lists m no_gap [] best points
 EndsWith m end.NodeLimit best points = Unit {0}
 EndsWith m end.Optimal best points = ⊥
 EndsWith m end.Infeasible best points = ⊥

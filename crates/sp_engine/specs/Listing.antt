@@ -1,5 +1,5 @@
 -- What the command that lists the solutions says.
-use Rattle.std.specs.Prelude.{◌≡◌, ℕ, zero, suc, ◌≤◌, List, [], ◌∷◌, ◌++◌, length, map, All, Option, Some, ℤ}
+use Rattle.std.specs.Prelude.{◌≡◌, ℕ, zero, suc, ◌≤◌, List, [], ◌∷◌, ◌++◌, length, map, All, Option, None, Some, ℤ}
 use Rattle.sp_engine.specs.declared.journals.Entry.{Entry}
 use Rattle.sp_engine.specs.declared.journals.RunEnd.{RunEnd}
 use Rattle.sp_engine.specs.declared.journals.RunEnd.TheVariants as end
@@ -41,9 +41,7 @@ RepliesAfter end.Infeasible named nodes after r = ⊥
 RepliesAfter end.PopulateLimit named nodes after r = ⊥
 
 -- the model was run: what was found is noted and legal, and the reply fits the run's end
-pub record SaysList (view : View) (notes : List Entry) (r : Reply) (after : View) : Type 0 where
-  pub named : Named
-  pub model_is : view.model ≡ Some named
+pub record ListsModel (named : Named) (view : View) (notes : List Entry) (r : Reply) (after : View) : Type 0 where
   pub found : List (List ℤ)
   pub ended : RunEnd
   pub nodes : ℕ
@@ -51,3 +49,8 @@ pub record SaysList (view : View) (notes : List Entry) (r : Reply) (after : View
   pub legal : IsLegalRun (asked_of view named.parts) found ended nodes
   pub after_is : after ≡ after_run view found nodes
   pub reply_is : RepliesAfter ended named nodes after r
+
+-- the solutions of the model that was read; a session without one isn't asked
+abbrev pub SaysList : Option Named → View → List Entry → Reply → View → Type 0
+SaysList None view notes r after = ⊥
+SaysList (Some named) view notes r after = ListsModel named view notes r after

@@ -1,5 +1,5 @@
 -- What a listed model is.
-use Rattle.std.specs.Prelude.{◌≡◌, ℕ, ◌^◌, ◌≤◌, List, [], length, Option, Some, IfSome, ℤ, unsigned_abs}
+use Rattle.std.specs.Prelude.{◌≡◌, ℕ, ◌^◌, ◌≤◌, List, [], length, Option, IfSome, ℤ, unsigned_abs}
 use Rattle.sp_model.specs.declared.parts.ModelParts.{ModelParts}
 use Rattle.sp_model.specs.Models.{root_of}
 use Rattle.sp_engine.specs.declared.journals.Entry.{Entry}
@@ -9,7 +9,7 @@ use Rattle.sp_engine.specs.declared.runs.Listing.{Listing}
 use Rattle.sp_engine.specs.declared.replies.Reply.{Reply}
 use Rattle.sp_engine.specs.declared.replies.Reply.TheVariants as reply
 use Rattle.sp_engine.specs.LegalRuns.{first_settings}
-use Rattle.sp_engine.specs.Listing.{SaysList, after_run}
+use Rattle.sp_engine.specs.Listing.{ListsModel, after_run}
 use Rattle.sp_engine.specs.Views.{View}
 
 -- the reply to a run that ended so and listed these serials
@@ -27,7 +27,7 @@ IsSmall (reply.Read variables rows) = Unit {0}
 IsSmall (reply.Stopped nodes) = Unit {0}
 IsSmall (reply.Refused why) = Unit {0}
 
--- a session that read the model and found nothing yet says this of the command that lists
+-- what a session says of the command that lists, where it read the model and found nothing yet
 pub record IsListing (names : List (List ℕ)) (m : ModelParts) (l : Listing) : Type 0 where
   pub names_are : l.names ≡ names
   pub model_is : l.model ≡ m
@@ -35,5 +35,5 @@ pub record IsListing (names : List (List ℕ)) (m : ModelParts) (l : Listing) : 
   pub small : IsSmall l.reply
   pub found : List (List ℤ)
   pub nodes : ℕ
-  pub says : (view : View) → view.model ≡ Some (record { names = names; parts = m }) → view.settings ≡ first_settings → view.filters ≡ []
-      → view.found ≡ [] → view.nodes ≡ 1 → SaysList view l.notes.items l.reply (after_run view found nodes)
+  pub says : (view : View) → view.settings ≡ first_settings → view.filters ≡ [] → view.found ≡ [] → view.nodes ≡ 1
+      → ListsModel (record { names = names; parts = m }) view l.notes.items l.reply (after_run view found nodes)

@@ -12,7 +12,7 @@ use Rattle.sp_engine.specs.Listing.{SaysList}
 -- one command over these data: the notes that it makes, its reply, and the data after it
 abbrev pub Says : View → Command → List Entry → Reply → View → Type 0
 Says view (command.Read name) notes r after = SaysRead view name notes r after
-Says view command.List notes r after = SaysList view notes r after
+Says view command.List notes r after = SaysList view.model view notes r after
 
 -- the place behind the first note that ends a run
 abbrev pub end_of_run : List Entry → ℕ

@@ -52,6 +52,9 @@ file_limit = 2 ^ 26
 abbrev pub session_limit : ℕ
 session_limit = 2 ^ 28
 
--- the most bytes that the next file may have
+-- the most bytes that the next file may have, where so many were fetched before
+abbrev pub limit_after : ℕ → ℕ
+limit_after fetched = min file_limit (session_limit - fetched)
+
 abbrev pub read_limit : View → ℕ
-read_limit view = min file_limit (session_limit - view.fetched)
+read_limit view = limit_after view.fetched

@@ -2,13 +2,19 @@
 ghost use Rattle.std.specs.Prelude.{◌≡◌, ◌≤◌, count_by, length};
 ghost use Rattle.sp_base.specs.Counts.{RoseBy, raised_by};
 ghost use Rattle.sp_engine.specs.Notes.{is_answer, is_absence, is_overrun, is_fault};
-ghost use Rattle.sp_engine.specs.Views.{View, file_limit, read_limit};
+ghost use Rattle.sp_engine.specs.Views.{View, file_limit, limit_after};
 
 use crate::journals::FetchNote;
 use crate::replies::Refusal;
 use sp_base::{Fetched, Shelf, Text};
 use sp_small_lp::{LpRefusal, NamedModel, read_lp};
 use std::alloc::Global;
+
+/// The most bytes of one file, 2^26.
+const FILE_LIMIT: u64 = 1 << 26;
+
+/// The most bytes of all files that a session reads, 2^28.
+const SESSION_LIMIT: u64 = 1 << 28;
 
 /// How the reading of a file ended.
 #[derive(Drop)]
@@ -36,6 +42,13 @@ pub enum ReadEnd {
 
 ghost use Rattle.sp_engine.specs.ReadEnds.{IsReadOf, ReadSays, IsRunnable, read_notes};
 
+/// The most bytes that the next file of a session may have, which fetched so many before.
+fn limit_after(fetched: u64) -> u64
+    ensures { result ≡ limit_after fetched }
+{
+    FILE_LIMIT.min(SESSION_LIMIT.saturating_sub(fetched))
+}
+
 /// Reads the bytes of a file.
 fn read_bytes(alloc: Global, bytes: Text) -> ReadEnd
     requires { length bytes ≤ file_limit }
@@ -51,11 +64,10 @@ fn read_bytes(alloc: Global, bytes: Text) -> ReadEnd
     }
 }
 
-/// Asks the shelf for the file of this name, once, and reads it. The file may have at most `limit` bytes, which is at most
-/// 2^26.
-pub fn read<F: Shelf>(alloc: Global, name: &Text, limit: u64, shelf: &mut F) -> ReadEnd
-    requires { limit ≤ file_limit }
-    ensures says { (view : View) → view.files ≡ F.files shelf.old → read_limit view ≡ limit → ReadSays view name.now result }
+/// Asks the shelf for the file of this name, once, and reads it, in a session that fetched so many bytes before.
+pub fn read<F: Shelf>(alloc: Global, name: &Text, fetched: u64, shelf: &mut F) -> ReadEnd
+    ensures says { (view : View) → view.files ≡ F.files shelf.old → view.fetched ≡ fetched
+        → ReadSays view name.now result }
     ensures runnable { IsRunnable result }
     ensures files { F.files shelf.new ≡ F.files shelf.old }
     ensures answers { F.answers shelf.new ≡ raised_by (count_by is_answer (read_notes result)) (F.answers shelf.old) }
@@ -63,7 +75,7 @@ pub fn read<F: Shelf>(alloc: Global, name: &Text, limit: u64, shelf: &mut F) -> 
     ensures overruns { RoseBy (count_by is_overrun (read_notes result)) (F.overruns shelf.old) (F.overruns shelf.new) }
     ensures faults { RoseBy (count_by is_fault (read_notes result)) (F.faults shelf.old) (F.faults shelf.new) }
 {
-    match shelf.read(name, limit) {
+    match shelf.read(name, limit_after(fetched)) {
         Fetched::Bytes(bytes) => read_bytes(alloc, bytes),
         Fetched::Absent => ReadEnd::Refused {
             answer: FetchNote::Absent,

@@ -8,8 +8,14 @@ ghost use Rattle.sp_engine.specs.LegalRuns.{no_gap, node_limit, room_of};
 
 use crate::journals::RunEnd;
 use crate::walks::walk;
-use sp_model::{BoxOf, Found, Gaps, Model, NoMemory, cut, least_value, list_from, walk_finds_all};
+use sp_model::{
+    BoxOf, Found, Gaps, Model, NoMemory, cut, least_value, list_from, objective_is_small,
+    optimum_is_unique, walk_finds_all,
+};
 use std::alloc::Global;
+
+/// The most nodes that a tree may have, where no other limit is set.
+const NODE_LIMIT: u32 = 200_000;
 
 /// What a run found, why it ended, and the size of its tree.
 #[derive(Debug, Drop)]
@@ -42,7 +48,7 @@ fn size_of_tree(count: u128) -> Option<u32>
 {
     if count == 0 {
         Some(1)
-    } else if count > 100_000 {
+    } else if count > (NODE_LIMIT / 2) as u128 {
         None
     } else {
         Some((2 * count - 1) as u32)
@@ -66,6 +72,8 @@ fn list_all(alloc: Global, model: &Model, nodes: u32) -> Result<Solved, NoMemory
     let found = walk(alloc, model)?;
     let scale = model.parts().scale;
     walk_finds_all();
+    objective_is_small();
+    optimum_is_unique();
     let end = RunEnd::Done;
     match least_value(found.as_slice()) {
         None => Ok(Solved {
@@ -94,7 +102,7 @@ pub fn solve(alloc: Global, model: &Model) -> Result<Solved, NoMemory>
             best: None,
             listed: Vec::new(alloc),
             end: RunEnd::NodeLimit,
-            nodes: 199_999,
+            nodes: NODE_LIMIT - 1,
         }),
     }
 }

@@ -5,7 +5,7 @@ ghost use Rattle.sp_model.specs.Models.{root_of};
 ghost use Rattle.sp_model.specs.Lists.{found_points};
 ghost use Rattle.sp_engine.specs.InnerWalk.{walk_after, IsFront};
 
-use sp_model::{BoxOf, Found, Model, NoMemory, Point, VarId};
+use sp_model::{BoxOf, Found, Model, NoMemory, Point, VarId, root_is_short};
 use std::alloc::Global;
 
 /// Puts the point behind what was found, where it is feasible.
@@ -65,6 +65,8 @@ pub fn walk(alloc: Global, model: &Model) -> Result<Vec<Found>, NoMemory>
     ensures { IfOk result (λ found. found.items ≡ found_points model.now) }
 {
     let ranges = model.root(alloc)?;
+    root_is_short();
+    // that the model is lawful is known of its parts
     let _parts = model.parts();
     let mut front = Point::new(alloc);
     let mut found = Vec::new(alloc);

@@ -29,7 +29,7 @@ use Rattle.sp_engine.specs.declared.replies.Reply.{Reply}
 use Rattle.sp_engine.specs.declared.replies.Reply.TheVariants as reply
 use Rattle.sp_engine.specs.declared.runs.Listing.{Listing}
 use Rattle.sp_engine.specs.LegalRuns.{first_settings}
-use Rattle.sp_engine.specs.Listing.{IsSerial, RepliesAfter, SaysList, after_run}
+use Rattle.sp_engine.specs.Listing.{IsSerial, ListsModel, RepliesAfter, after_run}
 use Rattle.sp_engine.specs.Notes.{answer_of, is_answer, is_absence, is_overrun, is_fault, run_notes}
 use Rattle.sp_engine.specs.ReadEnds.{ReadSays, bytes_notes, named_of}
 use Rattle.sp_engine.specs.Reading.{SaysRead, WantsInRead, fetched_more, with_model}
@@ -83,13 +83,13 @@ named_by names m = record { names = names; parts = m }
 
 -- what the command that lists says then
 listing_says : (files : Option Files) (bytes : List ℕ) (names : List (List ℕ)) (m : ModelParts) (l : Listing) (i : IsListing names m l)
-    → SaysList (read_view files bytes (named_by names m)) l.notes.items l.reply (after_run (read_view files bytes (named_by names m)) i.found i.nodes)
-listing_says files bytes names m l i = i.says (read_view files bytes (named_by names m)) refl refl refl refl refl
+    → ListsModel (named_by names m) (read_view files bytes (named_by names m)) l.notes.items l.reply (after_run (read_view files bytes (named_by names m)) i.found i.nodes)
+listing_says files bytes names m l i = i.says (read_view files bytes (named_by names m)) refl refl refl refl
 
 -- the notes, whatever was read
 pub listing_notes : {names : List (List ℕ)} {m : ModelParts} {l : Listing} (first : Entry) (entries : List Entry) → IsListing names m l → entries ≡ first ∷ l.notes.items → OwnNotes first entries
 listing_notes {names} {m} {l} first entries i e =
-    let s : SaysList (read_view None [] (named_by names m)) l.notes.items l.reply (after_run (read_view None [] (named_by names m)) i.found i.nodes) = listing_says None [] names m l i in
+    let s = listing_says None [] names m l i in
     record { rest = l.notes.items; noted = e; own = ap (list_all is_own) s.noted ∙ own_notes s.found s.ended s.nodes }
 
 -- each noted point can be printed
@@ -97,9 +97,6 @@ printable_notes : (names : List (List ℕ)) (m : ModelParts) (found : List (List
     → AllByRecursion (Feasible m) found → AllByRecursion (IsPrintable names m) (run_notes found e nodes)
 printable_notes names m [] e nodes named all = (tt, tt)
 printable_notes names m (x ∷ xs) e nodes named all = ((all.0.within, all.0.within.long ∙ sym named), printable_notes names m xs e nodes named all.1)
-
-same_named : {one other : Named} → Some one ≡ Some other → other ≡ one
-same_named e = cc
 
 same_answer : {one other : FetchNote} → entry.Fetched one ∷ [] ≡ entry.Fetched other ∷ [] → other ≡ one
 same_answer e = cc
@@ -111,13 +108,10 @@ printable {names} {m} {l} answer entries i e =
     (subst (λ p. All (IsPrintable names p) entries) (sym i.model_is)
     (subst (All (IsPrintable names m)) (sym (e ∙ ap (λ es. entry.Fetched answer ∷ es) s.noted))
     (All-from_recursion (IsPrintable names m) (entry.Fetched answer ∷ run_notes s.found s.ended s.nodes)
-    (tt, printable_notes names m s.found s.ended s.nodes i.long (recursion_from_All (Feasible m) s.found feasible)))))
+    (tt, printable_notes names m s.found s.ended s.nodes i.long (recursion_from_All (Feasible m) s.found s.legal.feasible)))))
   where
-    s : SaysList (read_view None [] (named_by names m)) l.notes.items l.reply (after_run (read_view None [] (named_by names m)) i.found i.nodes)
+    s : ListsModel (named_by names m) (read_view None [] (named_by names m)) l.notes.items l.reply (after_run (read_view None [] (named_by names m)) i.found i.nodes)
     s = listing_says None [] names m l i
-
-    feasible : All (Feasible m) s.found
-    feasible = subst (λ (n : Named). All (Feasible n.parts) s.found) (same_named s.model_is) s.legal.feasible
 
 -- each serial of the reply is the place of a note
 places : (found : List (List ℤ)) (count : ℕ) (serials : List ℕ) → length found < count → AllByRecursion (IsSerial (length found)) serials → AllByRecursion (λ serial. serial < count) serials
@@ -140,11 +134,11 @@ notes_long answer (x ∷ xs) e nodes = let h : length xs < length (entry.Fetched
 pub noted : {names : List (List ℕ)} {m : ModelParts} {l : Listing} (answer : FetchNote) (entries : List Entry)
     → IsListing names m l → entries ≡ entry.Fetched answer ∷ l.notes.items → AreNoted (length entries) l.reply
 noted {names} {m} {l} answer entries i e =
-    noted_reply s.ended s.named s.nodes (length entries) _ l.reply s.reply_is
+    noted_reply s.ended (named_by names m) s.nodes (length entries) _ l.reply s.reply_is
     (subst (λ es. length (after_run (read_view None [] (named_by names m)) i.found i.nodes).found < length es) (sym (e ∙ ap (λ es. entry.Fetched answer ∷ es) s.noted))
     (subst (λ xs. length xs < length (entry.Fetched answer ∷ run_notes s.found s.ended s.nodes)) (sym found) (notes_long answer s.found s.ended s.nodes)))
   where
-    s : SaysList (read_view None [] (named_by names m)) l.notes.items l.reply (after_run (read_view None [] (named_by names m)) i.found i.nodes)
+    s : ListsModel (named_by names m) (read_view None [] (named_by names m)) l.notes.items l.reply (after_run (read_view None [] (named_by names m)) i.found i.nodes)
     s = listing_says None [] names m l i
 
     found : (after_run (read_view None [] (named_by names m)) i.found i.nodes).found ≡ s.found
@@ -203,11 +197,11 @@ list_said {files} {name} {bytes} {named} {l} {entries} i read e = record {
     rest = l.notes.items;
     divided = e;
     read = reply.Read (length named.names) (length named.parts.rows);
-    after = with_model (fetched_more (begun first_settings files) (length bytes)) (named_of named);
+    after = read_view files bytes (named_of named);
     says = read.says;
     then_is = record {
       listed = l.reply;
-      last = after_run (with_model (fetched_more (begun first_settings files) (length bytes)) (named_of named)) i.found i.nodes;
+      last = after_run (read_view files bytes (named_of named)) i.found i.nodes;
       says = s;
       text_is = text;
       refused_is = refl;
@@ -216,24 +210,17 @@ list_said {files} {name} {bytes} {named} {l} {entries} i read e = record {
   status_is = refl;
 }
   where
-    s : SaysList (with_model (fetched_more (begun first_settings files) (length bytes)) (named_of named)) l.notes.items l.reply
-        (after_run (with_model (fetched_more (begun first_settings files) (length bytes)) (named_of named)) i.found i.nodes)
-    s = i.says (with_model (fetched_more (begun first_settings files) (length bytes)) (named_of named)) refl refl refl refl refl
+    s : ListsModel (named_of named) (read_view files bytes (named_of named)) l.notes.items l.reply (after_run (read_view files bytes (named_of named)) i.found i.nodes)
+    s = listing_says files bytes named.names named.parts l i
 
-    same : s.named ≡ named_of named
-    same = same_named s.model_is
-
-    found : (after_run (with_model (fetched_more (begun first_settings files) (length bytes)) (named_of named)) i.found i.nodes).found ≡ s.found
+    found : (after_run (read_view files bytes (named_of named)) i.found i.nodes).found ≡ s.found
     found = ap (λ (v : View). v.found) s.after_is
 
-    text : printed_text l.names l.model entries l.reply
-        ≡ reply_text (after_run (with_model (fetched_more (begun first_settings files) (length bytes)) (named_of named)) i.found i.nodes) l.reply
+    text : printed_text l.names l.model entries l.reply ≡ reply_text (after_run (read_view files bytes (named_of named)) i.found i.nodes) l.reply
     text =
         ap (λ ns. printed_text ns l.model entries l.reply) i.names_are ∙ ap (λ p. printed_text named.names p entries l.reply) i.model_is
         ∙ ap (λ es. printed_text named.names named.parts es l.reply) (e ∙ ap (λ es. entry.Fetched (note.Bytes bytes) ∷ es) s.noted)
-        ∙ ap (λ (n : Named). printed_text n.names n.parts (entry.Fetched (note.Bytes bytes) ∷ run_notes s.found s.ended s.nodes) l.reply) (sym same)
-        ∙ text_fits s.named (note.Bytes bytes) s.found s.ended s.nodes
-        (after_run (with_model (fetched_more (begun first_settings files) (length bytes)) (named_of named)) i.found i.nodes) l.reply s.model_is found s.reply_is
+        ∙ text_fits (named_of named) (note.Bytes bytes) s.found s.ended s.nodes (after_run (read_view files bytes (named_of named)) i.found i.nodes) l.reply refl found s.reply_is
 
 pub list_outcome : {k : Bool} {bytes : List ℕ} {named : NamedModel} {l : Listing} {before entries : List Entry} {s : Status} {old new : Option (List ℕ)} (i : IsListing named.names named.parts l)
     → before ≡ entry.Fetched (note.Bytes bytes) ∷ l.notes.items → entries ≡ before

@@ -25,9 +25,6 @@ use sp_model::{Items, Model};
 use sp_small_lp::NamedModel;
 use std::alloc::Global;
 
-/// The most bytes that the first file of a session may have, 2^26.
-const FILE_LIMIT: u64 = 1 << 26;
-
 /// How a run ended, and what it noted.
 #[derive(Debug, Drop)]
 pub struct Ending {
@@ -268,7 +265,7 @@ fn read_and_list<F: Shelf, K: Sink>(
     ensures overruns { RoseBy (count_by is_overrun result.journal.entries) (F.overruns shelf.old) (F.overruns shelf.new) }
     ensures shelf_faults { RoseBy (count_by is_fault result.journal.entries) (F.faults shelf.old) (F.faults shelf.new) }
 {
-    match read(alloc, name, FILE_LIMIT, shelf) {
+    match read(alloc, name, 0, shelf) {
         ReadEnd::Accepted { bytes, named } => list_buffered(alloc, bytes, named, entries, sink),
         ReadEnd::Refused { answer, why } => refuse(sink, entries, answer, why),
         ReadEnd::NoMemory { bytes } => end_without_memory(entries, bytes),

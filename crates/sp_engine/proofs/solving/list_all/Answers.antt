@@ -14,7 +14,7 @@ pub optimal-requires-clause-near : goal.optimal-requires-clause-near
 optimal-requires-clause-near c =
     let all = subst (IsFoundAll c.args.model.now) (sym (c.as_slice.ensures.value ∙ c.in_ok-found.ensures)) (c.walk_finds_all.ensures.all c.args.model.now) in
     let least : IsLeast c.args.model.now c.in-Some.best = c.in-Some.ensures.optimum c.args.model.now all in
-    let small = small_best c.args.model.now c.in-Some.best c.parts.ensures.lawful least in
+    let small = small_best c.args.model.now c.in-Some.best c.objective_is_small.ensures c.parts.ensures.lawful least in
     let fits : FitsSigned w128 c.in-Some.best = fits_signed_from_abs w128 c.in-Some.best (omega (arith, small)) in
     subst (λ v. unsigned_abs v ≤ 10 ^ 36) (sym (to_z-of_z w128 c.in-Some.best fits)) small
 
@@ -28,9 +28,9 @@ returns-in-Some c =
     let m = c.args.model.now in
     let all = subst (IsFoundAll m) (sym (c.as_slice.ensures.value ∙ c.in_ok-found.ensures)) (c.walk_finds_all.ensures.all m) in
     let least : IsLeast m c.in-Some.best = c.in-Some.ensures.optimum m all in
-    let small = small_best m c.in-Some.best c.parts.ensures.lawful least in
+    let small = small_best m c.in-Some.best c.objective_is_small.ensures c.parts.ensures.lawful least in
     let fits : FitsSigned w128 c.in-Some.best = fits_signed_from_abs w128 c.in-Some.best (omega (arith, small)) in
     let same : to_z w128 (of_z w128 c.in-Some.best) ≡ c.in-Some.best = to_z-of_z w128 c.in-Some.best fits in
     let enough = subst (IsFoundEnough m (cut_of (to_z w128 (of_z w128 c.in-Some.best)) no_gap m.scale)) (sym c.in_ok-found.ensures) (c.walk_finds_all.ensures.enough m (cut_of (to_z w128 (of_z w128 c.in-Some.best)) no_gap m.scale)) in
     let list = c.optimal.ensures m (ap (λ (p : ModelParts). p.scale) (sym c.parts.ensures.same)) enough in
-    solved_list _ _ c.in-Some.best (ap Some same) refl c.requires small least (subst (λ v. IsFoundList m (cut_of v no_gap m.scale) c.optimal.result.items) same list)
+    solved_list _ _ c.in-Some.best c.optimum_is_unique.ensures (ap Some same) refl c.requires small least (subst (λ v. IsFoundList m (cut_of v no_gap m.scale) c.optimal.result.items) same list)

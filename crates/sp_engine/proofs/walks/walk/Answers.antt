@@ -1,13 +1,12 @@
 use Rattle.std.proofs.Common.{◌≤◌, ◌++◌, length, ◌∙◌, ap}
 use Rattle.sp_model.specs.Models.{root_of}
-use Rattle.sp_model.proofs.FoundLemmas.{short_root}
 use Rattle.sp_engine.specs.InnerWalk.{walk_after}
 use Rattle.sp_engine.proofs.WalkLemmas.{walk_all}
 use Rattle.sp_engine.proofs.walks.walk.Goals as goal
 
 pub walk_from-requires-clause-few : goal.walk_from-requires-clause-few
 walk_from-requires-clause-few c =
-    let few : length (root_of c.args.model.now) ≤ 2000 = short_root _ c.parts-parts.ensures.lawful in
+    let few : length (root_of c.args.model.now) ≤ 2000 = c.root_is_short.ensures _ c.parts-parts.ensures.lawful in
     rw c.in_ok-ranges.ensures few
 
 pub returns : goal.returns

@@ -20,7 +20,6 @@ use Rattle.sp_engine.specs.declared.solving.Solved.{Solved}
 use Rattle.sp_engine.specs.InnerSolving.{EndsWith, IsSolved}
 use Rattle.sp_engine.specs.LegalRuns.{Asked, IsLegalRun, asked_of, first_run, first_settings, no_gap}
 use Rattle.sp_engine.specs.Listing.{IsSerial, RepliesAfter, after_run, serials_from}
-use Rattle.sp_engine.specs.Notes.{run_notes}
 use Rattle.sp_engine.specs.Runs.{IsListing, IsSmall, reply_of}
 use Rattle.sp_engine.specs.SolutionLists.{Lists}
 use Rattle.sp_engine.specs.Views.{Filter, Named, Settings, View, point_of}

@@ -1,7 +1,7 @@
 -- What the command that reads a file says at each answer of the shelf.
-use Rattle.std.specs.Prelude.{None, Some, ◌⊎◌, count_by}
-use Rattle.std.proofs.Common.{◌≡◌, ℕ, ◌≤◌, List, [], ◌∷◌, length, refl, sym, ap, ◌∙◌, subst, inl, inr, Option, arith}
-use Rattle.sp_base.specs.Counts.{RoseBy, raised, raised_by}
+use Rattle.std.specs.Prelude.{None, Some}
+use Rattle.std.proofs.Common.{◌≡◌, ℕ, ◌≤◌, List, [], ◌∷◌, refl, sym, ap, subst, inl, inr, Option, arith}
+use Rattle.sp_base.specs.Counts.{raised}
 use Rattle.sp_base.specs.Shelf.{Files, Fetches}
 use Rattle.sp_base.specs.declared.shelves.Fetched.TheVariants as fetched
 use Rattle.sp_small_lp.specs.Reads.{Reads}
@@ -10,10 +10,9 @@ use Rattle.sp_engine.specs.declared.journals.FetchNote.{FetchNote}
 use Rattle.sp_engine.specs.declared.journals.FetchNote.TheVariants as note
 use Rattle.sp_engine.specs.declared.reading.ReadEnd.{ReadEnd}
 use Rattle.sp_engine.specs.declared.reading.ReadEnd.TheVariants as ended
-use Rattle.sp_engine.specs.declared.replies.Refusal.{Refusal}
 use Rattle.sp_engine.specs.declared.replies.Refusal.TheVariants as refusal
 use Rattle.sp_engine.specs.declared.replies.Reply.TheVariants as reply
-use Rattle.sp_engine.specs.Notes.{answer_of, is_answer, is_absence, is_overrun, is_fault}
+use Rattle.sp_engine.specs.Notes.{AreAnswers, ShelfState, answer_of}
 use Rattle.sp_engine.specs.ReadEnds.{IsReadOf, IsRunnable, ReadSays, bytes_notes, named_of, read_notes}
 use Rattle.sp_engine.specs.Views.{View, read_limit}
 
@@ -83,14 +82,7 @@ bytes_noted bytes (ended.Refused answer why) is = ap (λ a. entry.Fetched a ∷ 
 bytes_noted bytes (ended.NoMemory read) is = ap bytes_notes is
 
 -- so the shelf's counts owe nothing for absences, overruns and faults, and one for answers
-pub bytes_counted : (bytes : List ℕ) (r : ReadEnd) (before now : ℕ) → IsReadOf bytes r → now ≡ raised before → now ≡ raised_by (count_by is_answer (read_notes r)) before
-bytes_counted bytes r before now is h = subst (λ es. now ≡ raised_by (count_by is_answer es) before) (sym (bytes_noted bytes r is)) h
-
-pub bytes_present : (bytes : List ℕ) (r : ReadEnd) (before now : ℕ) → IsReadOf bytes r → before ≤ now → RoseBy (count_by is_absence (read_notes r)) before now
-bytes_present bytes r before now is h = subst (λ es. RoseBy (count_by is_absence es) before now) (sym (bytes_noted bytes r is)) (omega arith)
-
-pub bytes_short : (bytes : List ℕ) (r : ReadEnd) (before now : ℕ) → IsReadOf bytes r → before ≤ now → RoseBy (count_by is_overrun (read_notes r)) before now
-bytes_short bytes r before now is h = subst (λ es. RoseBy (count_by is_overrun es) before now) (sym (bytes_noted bytes r is)) (omega arith)
-
-pub bytes_sound : (bytes : List ℕ) (r : ReadEnd) (before now : ℕ) → IsReadOf bytes r → before ≤ now → RoseBy (count_by is_fault (read_notes r)) before now
-bytes_sound bytes r before now is h = subst (λ es. RoseBy (count_by is_fault es) before now) (sym (bytes_noted bytes r is)) (omega arith)
+pub bytes_answered : (bytes : List ℕ) (r : ReadEnd) (old new : ShelfState) → IsReadOf bytes r → new.files ≡ old.files → new.answers ≡ raised old.answers
+    → old.absences ≤ new.absences → old.overruns ≤ new.overruns → old.faults ≤ new.faults → AreAnswers (read_notes r) old new
+bytes_answered bytes r old new is files answers absences overruns faults = subst (λ es. AreAnswers es old new) (sym (bytes_noted bytes r is))
+    (record { files = files; answers = answers; absences = omega (arith, absences); overruns = omega (arith, overruns); faults = omega (arith, faults) })

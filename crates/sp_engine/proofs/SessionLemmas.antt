@@ -4,7 +4,6 @@ use Rattle.std.specs.Prelude.{ℤ}
 use Rattle.sp_engine.specs.declared.commands.Command.{Command}
 use Rattle.sp_engine.specs.declared.commands.Command.TheVariants as command
 use Rattle.sp_engine.specs.declared.journals.Entry.{Entry}
-use Rattle.sp_engine.specs.declared.journals.Entry.TheVariants as entry
 use Rattle.sp_engine.specs.declared.journals.RunEnd.{RunEnd}
 use Rattle.sp_engine.specs.declared.replies.Reply.{Reply}
 use Rattle.sp_engine.specs.Notes.{run_notes}

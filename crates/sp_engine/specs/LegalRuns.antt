@@ -8,7 +8,7 @@ use Rattle.sp_model.specs.Cuts.{cut_of}
 use Rattle.sp_model.specs.Models.{Feasible, IsLeast, objective, root_of}
 use Rattle.sp_engine.specs.declared.journals.RunEnd.{RunEnd}
 use Rattle.sp_engine.specs.declared.journals.RunEnd.TheVariants as end
-use Rattle.sp_engine.specs.Views.{Filter, passes, Named, Settings, View}
+use Rattle.sp_engine.specs.Views.{Filter, passes, Settings, View}
 
 -- without a gap: the list is that of the optimal points
 abbrev pub no_gap : Gaps
@@ -35,7 +35,8 @@ pub record Asked : Type 0 where
   pub nodes : ℕ
 
 abbrev pub asked_of : View → ModelParts → Asked
-asked_of view m = record { parts = m; settings = view.settings; filters = view.filters; found = view.found; nodes = view.nodes }
+asked_of view m =
+    record { parts = m; settings = view.settings; filters = view.filters; found = view.found; nodes = view.nodes }
 
 -- the first run of a model that a command line asks for
 abbrev pub first_run : ModelParts → Asked
@@ -53,7 +54,8 @@ pub record IsLegalRun (a : Asked) (found : List (List ℤ)) (ended : RunEnd) (no
   pub passing : All (λ x. IsTrue (passes a.filters x)) found
   pub once : AllPairs (λ x y. x ≢ y) (a.found ++ found)
   -- they lie within the cut
-  pub within_cut : (best : ℤ) → IsLeast a.parts best → All (λ x. objective a.parts x ≤ℤ cut_of best a.settings.gaps a.parts.scale) found
+  pub within_cut : (best : ℤ) → IsLeast a.parts best
+      → All (λ x. objective a.parts x ≤ℤ cut_of best a.settings.gaps a.parts.scale) found
   -- the node limit stops a run only where the tree is full
   pub stopped : ended ≡ end.NodeLimit → IsTreeFull a nodes
   -- a run that found every listed point made the largest tree

@@ -1,5 +1,8 @@
 -- What the notes of a journal say.
-use Rattle.std.specs.Prelude.{ℕ, Bool, true, false, List, [], ◌∷◌, ◌++◌, map, ℤ}
+use Rattle.std.specs.Prelude.{◌≡◌, ℕ, Bool, true, false, List, [], ◌∷◌, ◌++◌, map, count_by, Option, ℤ}
+use Rattle.sp_base.specs.Counts.{RoseBy, raised_by}
+use Rattle.sp_base.specs.Shelf.{Files}
+use Rattle.sp_base.specs.declared.shelves.Shelf.{Ghosts as ShelfOf}
 use Rattle.sp_base.specs.declared.shelves.Fetched.{Fetched}
 use Rattle.sp_base.specs.declared.shelves.Fetched.TheVariants as fetched
 use Rattle.sp_engine.specs.declared.journals.Entry.{Entry}
@@ -39,3 +42,23 @@ is_fault e = false
 -- what is noted of a run: the points in the order in which they were found, and its end
 abbrev pub run_notes : List (List ℤ) → RunEnd → ℕ → List Entry
 run_notes found ended nodes = map entry.Found found ++ entry.Ended ended nodes ∷ []
+
+-- all that contracts see of a shelf
+pub record ShelfState : Type 0 where
+  pub files : Option Files
+  pub answers : ℕ
+  pub absences : ℕ
+  pub overruns : ℕ
+  pub faults : ℕ
+
+abbrev pub shelf_state : {S : Type 0} → ShelfOf S → S → ShelfState
+shelf_state F s =
+    record { files = F.files s; answers = F.answers s; absences = F.absences s; overruns = F.overruns s; faults = F.faults s }
+
+-- no file changed, each answer of the shelf is noted, and its other counts rose by what is noted
+pub record AreAnswers (notes : List Entry) (old new : ShelfState) : Type 0 where
+  pub files : new.files ≡ old.files
+  pub answers : new.answers ≡ raised_by (count_by is_answer notes) old.answers
+  pub absences : RoseBy (count_by is_absence notes) old.absences new.absences
+  pub overruns : RoseBy (count_by is_overrun notes) old.overruns new.overruns
+  pub faults : RoseBy (count_by is_fault notes) old.faults new.faults

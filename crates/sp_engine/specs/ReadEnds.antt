@@ -31,13 +31,17 @@ read_notes (ended.NoMemory bytes) = bytes_notes bytes
 -- the command that read the file of this name says so, or memory was wanting before its reply
 abbrev pub ReadSays : View → List ℕ → ReadEnd → Type 0
 ReadSays view name (ended.Accepted bytes named) =
-    SaysRead view name (entry.Fetched (note.Bytes bytes) ∷ []) (reply.Read (length named.names) (length named.parts.rows))
+    SaysRead view name (entry.Fetched (note.Bytes bytes) ∷ [])
+    (reply.Read (length named.names) (length named.parts.rows))
     (with_model (fetched_more view (length bytes)) (named_of named))
 ReadSays view name (ended.Refused (note.Bytes bytes) why) =
     SaysRead view name (entry.Fetched (note.Bytes bytes) ∷ []) (reply.Refused why) (fetched_more view (length bytes))
-ReadSays view name (ended.Refused note.Absent why) = SaysRead view name (entry.Fetched note.Absent ∷ []) (reply.Refused why) view
-ReadSays view name (ended.Refused note.TooLong why) = SaysRead view name (entry.Fetched note.TooLong ∷ []) (reply.Refused why) view
-ReadSays view name (ended.Refused note.Failed why) = SaysRead view name (entry.Fetched note.Failed ∷ []) (reply.Refused why) view
+ReadSays view name (ended.Refused note.Absent why) =
+    SaysRead view name (entry.Fetched note.Absent ∷ []) (reply.Refused why) view
+ReadSays view name (ended.Refused note.TooLong why) =
+    SaysRead view name (entry.Fetched note.TooLong ∷ []) (reply.Refused why) view
+ReadSays view name (ended.Refused note.Failed why) =
+    SaysRead view name (entry.Fetched note.Failed ∷ []) (reply.Refused why) view
 ReadSays view name (ended.NoMemory bytes) = WantsInRead view name (bytes_notes bytes)
 
 -- an accepted model is lawful and has a name for each variable
@@ -48,7 +52,10 @@ IsRunnable (ended.NoMemory bytes) = Unit {0}
 
 -- the end of reading these bytes, which were fetched
 abbrev pub IsReadOf : List ℕ → ReadEnd → Type 0
-IsReadOf bytes (ended.Accepted read named) = (read ≡ bytes) × Reads bytes named.names named.parts × IsLawful named.parts × (length named.names ≡ length named.parts.lower)
+IsReadOf bytes (ended.Accepted read named) =
+    (read ≡ bytes) × Reads bytes named.names named.parts × IsLawful named.parts
+    × (length named.names ≡ length named.parts.lower)
 IsReadOf bytes (ended.Refused answer why) =
-    (answer ≡ note.Bytes bytes) × (why ≡ refusal.Syntax) × ((names : List (List ℕ)) (m : ModelParts) → ¬ Reads bytes names m)
+    (answer ≡ note.Bytes bytes) × (why ≡ refusal.Syntax)
+    × ((names : List (List ℕ)) (m : ModelParts) → ¬ Reads bytes names m)
 IsReadOf bytes (ended.NoMemory read) = read ≡ Some bytes

@@ -1,5 +1,5 @@
 -- What the command that reads a file says.
-use Rattle.std.specs.Prelude.{◌≡◌, ℕ, ◌+◌, List, [], ◌∷◌, length, Option, None, Some, ◌⊎◌}
+use Rattle.std.specs.Prelude.{◌≡◌, ℕ, ◌+◌, List, [], ◌∷◌, length, Some, ◌⊎◌}
 use Rattle.sp_base.specs.Shelf.{Fetches}
 use Rattle.sp_base.specs.declared.shelves.Fetched.TheVariants as fetched
 use Rattle.sp_model.specs.declared.parts.ModelParts.{ModelParts}
@@ -56,4 +56,6 @@ pub record SaysRead (view : View) (name : List ℕ) (notes : List Entry) (r : Re
 
 -- Memory was wanting before the reply: nothing is noted, or the bytes of the file are.
 pub record WantsInRead (view : View) (name : List ℕ) (notes : List Entry) : Type 0 where
-  pub noted : (notes ≡ []) ⊎ ((bytes : List ℕ) × (notes ≡ entry.Fetched (note.Bytes bytes) ∷ []) × Fetches (fetched.Bytes bytes) view.files name (read_limit view))
+  pub noted : (notes ≡ [])
+      ⊎ ((bytes : List ℕ) × (notes ≡ entry.Fetched (note.Bytes bytes) ∷ [])
+      × Fetches (fetched.Bytes bytes) view.files name (read_limit view))

@@ -1,5 +1,5 @@
 -- Commands in order.
-use Rattle.std.specs.Prelude.{◌≡◌, ℕ, zero, suc, List, [], ◌∷◌, ◌++◌, length, Option}
+use Rattle.std.specs.Prelude.{ℕ, suc, List, [], ◌∷◌}
 use Rattle.sp_engine.specs.declared.commands.Command.{Command}
 use Rattle.sp_engine.specs.declared.commands.Command.TheVariants as command
 use Rattle.sp_engine.specs.declared.journals.Entry.{Entry}

@@ -1,5 +1,5 @@
 -- What a session keeps, as plain data: what the user set, and what was read and found so far.
-use Rattle.std.specs.Prelude.{◌≡◌, ℕ, ◌^◌, ◌-◌, min, Bool, List, [], ◌∷◌, slice_index_or, Option, None, Some, ℤ}
+use Rattle.std.specs.Prelude.{ℕ, ◌^◌, ◌-◌, min, Bool, List, [], ◌∷◌, slice_index_or, Option, None, ℤ}
 use Rattle.std.specs.List.{list_all}
 use Rattle.sp_base.specs.Shelf.{Files}
 use Rattle.sp_model.specs.declared.gaps.Gaps.{Gaps}
@@ -39,7 +39,8 @@ pub record View : Type 0 where
 
 -- a session that begins
 abbrev pub begun : Settings → Option Files → View
-begun settings files = record { settings = settings; model = None; filters = []; found = []; nodes = 1; files = files; fetched = 0 }
+begun settings files =
+    record { settings = settings; model = None; filters = []; found = []; nodes = 1; files = files; fetched = 0 }
 
 -- the point of a serial; the first point has the serial 1, and nothing has 0
 abbrev pub point_of : List (List ℤ) → ℕ → List ℤ

@@ -1,7 +1,6 @@
 //! Reading a model file from a shelf.
-ghost use Rattle.std.specs.Prelude.{◌≡◌, ◌≤◌, count_by, length};
-ghost use Rattle.sp_base.specs.Counts.{RoseBy, raised_by};
-ghost use Rattle.sp_engine.specs.Notes.{is_answer, is_absence, is_overrun, is_fault};
+ghost use Rattle.std.specs.Prelude.{◌≡◌, ◌≤◌, length};
+ghost use Rattle.sp_engine.specs.Notes.{AreAnswers, shelf_state};
 ghost use Rattle.sp_engine.specs.Views.{View, file_limit, limit_after};
 
 use crate::journals::FetchNote;
@@ -69,11 +68,7 @@ pub fn read<F: Shelf>(alloc: Global, name: &Text, fetched: u64, shelf: &mut F) -
     ensures says { (view : View) → view.files ≡ F.files shelf.old → view.fetched ≡ fetched
         → ReadSays view name.now result }
     ensures runnable { IsRunnable result }
-    ensures files { F.files shelf.new ≡ F.files shelf.old }
-    ensures answers { F.answers shelf.new ≡ raised_by (count_by is_answer (read_notes result)) (F.answers shelf.old) }
-    ensures absences { RoseBy (count_by is_absence (read_notes result)) (F.absences shelf.old) (F.absences shelf.new) }
-    ensures overruns { RoseBy (count_by is_overrun (read_notes result)) (F.overruns shelf.old) (F.overruns shelf.new) }
-    ensures faults { RoseBy (count_by is_fault (read_notes result)) (F.faults shelf.old) (F.faults shelf.new) }
+    ensures noted { AreAnswers (read_notes result) (shelf_state F.Shelf shelf.old) (shelf_state F.Shelf shelf.new) }
 {
     match shelf.read(name, limit_after(fetched)) {
         Fetched::Bytes(bytes) => read_bytes(alloc, bytes),

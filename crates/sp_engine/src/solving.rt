@@ -34,7 +34,8 @@ ghost use Rattle.sp_engine.specs.InnerSolving.{IsSolved};
 
 /// The size of the tree that is split down to the single points of the box, or `None` where it passes the node limit.
 fn tree_size(root: &BoxOf) -> Option<u32>
-    ensures { MatchOption result (node_limit < room (point_count root.now)) (λ nodes. (nodes ≡ room (point_count root.now)) × (nodes ≤ node_limit)) }
+    ensures { let whole = room (point_count root.now) in
+        MatchOption result (node_limit < whole) (λ nodes. (nodes ≡ whole) × (nodes ≤ node_limit)) }
 {
     match root.count() {
         None => None,
@@ -59,7 +60,9 @@ fn size_of_tree(count: u128) -> Option<u32>
 fn optimal(found: Vec<Found>, best: &i128, scale: u8) -> Vec<Found>
     requires near { unsigned_abs best.now ≤ 10 ^ 36 }
     requires scale { scale ≤ 30 }
-    ensures { (m : ModelParts) → m.scale ≡ scale → IsFoundEnough m (cut_of best.now no_gap m.scale) found.items → IsFoundList m (cut_of best.now no_gap m.scale) result.items }
+    ensures { (m : ModelParts) → m.scale ≡ scale
+        → IsFoundEnough m (cut_of best.now no_gap m.scale) found.items
+        → IsFoundList m (cut_of best.now no_gap m.scale) result.items }
 {
     list_from(found, cut(*best, &Gaps::only_optima(), scale))
 }

@@ -3,17 +3,17 @@ use Rattle.std.specs.Prelude.{ℤ, flat_map, map, filter, count_by, slice_index_
 use Rattle.std.specs.List.{list_all, AllByRecursion}
 use Rattle.std.proofs.Common.{◌≡◌, ℕ, zero, suc, ◌<◌, ◌≤◌, List, [], ◌∷◌, ◌++◌, length, Option, None, Some, refl, sym, ap, ◌∙◌, subst, inl, inr, arith, length-append}
 use Rattle.std.proofs.lemmas.List.{append-nil, length-map}
-use Rattle.std.proofs.lemmas.List.Elements.{All-from_recursion, recursion_from_All}
+use Rattle.std.proofs.lemmas.List.Elements.{All-from_recursion, filter-append, recursion_from_All}
 use Rattle.std.proofs.lemmas.List.Sums.{length-filter}
 use Rattle.sp_base.specs.Told.{append}
-use Rattle.sp_base.specs.Counts.{RoseBy, raised, raised_by}
+use Rattle.sp_base.specs.Counts.{RoseBy, raised_by}
 use Rattle.sp_base.specs.Shelf.{Files, Fetches}
 use Rattle.sp_base.specs.declared.shelves.Fetched.TheVariants as fetched
 use Rattle.sp_base.specs.declared.sinks.SinkEnd.{SinkEnd}
 use Rattle.sp_base.specs.declared.sinks.SinkEnd.TheVariants as sunk
 use Rattle.sp_base.specs.declared.statuses.Status.{Status}
 use Rattle.sp_base.specs.declared.statuses.Status.TheVariants as status
-use Rattle.sp_base.specs.Writing.{Puts}
+use Rattle.sp_base.specs.Writing.{Puts, SinkState}
 use Rattle.sp_model.specs.declared.parts.ModelParts.{ModelParts}
 use Rattle.sp_model.specs.Models.{root_of, Feasible}
 use Rattle.sp_small_lp.specs.declared.reading.NamedModel.{NamedModel}
@@ -30,7 +30,7 @@ use Rattle.sp_engine.specs.declared.replies.Reply.TheVariants as reply
 use Rattle.sp_engine.specs.declared.runs.Listing.{Listing}
 use Rattle.sp_engine.specs.LegalRuns.{first_settings}
 use Rattle.sp_engine.specs.Listing.{IsSerial, ListsModel, RepliesAfter, after_run}
-use Rattle.sp_engine.specs.Notes.{answer_of, is_answer, is_absence, is_overrun, is_fault, run_notes}
+use Rattle.sp_engine.specs.Notes.{AreAnswers, ShelfState, answer_of, is_answer, is_absence, is_overrun, is_fault, run_notes}
 use Rattle.sp_engine.specs.ReadEnds.{ReadSays, bytes_notes, named_of}
 use Rattle.sp_engine.specs.Reading.{SaysRead, WantsInRead, fetched_more, with_model}
 use Rattle.sp_engine.specs.Replies.{is_refused}
@@ -40,16 +40,20 @@ use Rattle.sp_shell.specs.declared.wordings.Wording.TheVariants as wording
 use Rattle.sp_shell.specs.Wording.{refusal_wording, spelling}
 use Rattle.sp_shell.specs.Replies.{done_head, listed_text, reply_text, solution_line}
 use Rattle.sp_shell.specs.Runs.{IsFileRun, IsUsage, OneRun, Outcome, RunText, RunUnsaid, status_by}
-use Rattle.sp_shell.specs.InnerEndings.{status_after, Answers, IsWhole}
-use Rattle.sp_shell.specs.InnerReplies.{AreNoted, IsPrintable, entry_line, note_at, printed_text, serial_line}
+use Rattle.sp_shell.specs.InnerEndings.{status_after, Answered, Ended, IsWhole}
+use Rattle.sp_shell.specs.InnerReplies.{AreNoted, CanPrint, IsPrintable, entry_line, note_at, printed_text, serial_line}
 use Rattle.sp_shell.specs.InnerRuns.{IsRead, OwnNotes, is_own}
 
 -- a status that comes with a whole text, and what went out
-pub outcome_of : {k : Bool} (says : List Entry → List ℕ → Status → Type 0) (unsaid : List Entry → Type 0) (entries : List Entry) {text : List ℕ} {s : Status} {old new : Option (List ℕ)} (good : Status)
-    → IsWhole good → says entries text good → Answers k good s old new text → Outcome k says unsaid entries s old new
-outcome_of {k} says unsaid entries {text} {s} {old} {new} good whole said a = subst (λ t. Outcome k says unsaid entries t old new) (sym a.status_is) (by a.sent a.sends a.memory)
+pub ended_of : {k : Bool} (says : List Entry → List ℕ → Status → Type 0) (unsaid : List Entry → Type 0) (entries : List Entry) {text : List ℕ} {s : Status} {old new : SinkState} (good : Status)
+    → IsWhole good → says entries text good → Answered k good s old new text → Ended k says unsaid entries s old new
+ended_of {k} says unsaid entries {text} {s} {old} {new} good whole said a = record {
+  outcome = subst (λ t. Outcome k says unsaid entries t old.held new.held) (sym a.status_is) (by a.sent a.sends.put a.sends.no_memory);
+  later = a.sends.later;
+  fault = λ h. a.sends.fault (faulted a.sent good whole (sym a.status_is ∙ h));
+}
   where
-    all : (g : Status) → IsWhole g → says entries text g → new ≡ append old text → Outcome k says unsaid entries g old new
+    all : (g : Status) → IsWhole g → says entries text g → new.held ≡ append old.held text → Outcome k says unsaid entries g old.held new.held
     all status.Clean w d h = record { text = text; said = d; held = h }
     all status.SomeRefused w d h = record { text = text; said = d; held = h }
     all status.Usage w d h = record { text = text; said = d; held = h }
@@ -58,14 +62,26 @@ outcome_of {k} says unsaid entries {text} {s} {old} {new} good whole said a = su
     all status.NoMemory w d h = absurd w
     all status.StreamTooLong w d h = absurd w
 
-    by : (r : Result (Unit {0}) SinkEnd) → Puts r old new text → (r ≡ Err sunk.NoMemory → IsTrue k) → Outcome k says unsaid entries (status_after r good) old new
+    by : (r : Result (Unit {0}) SinkEnd) → Puts r old.held new.held text → (r ≡ Err sunk.NoMemory → IsTrue k) → Outcome k says unsaid entries (status_after r good) old.held new.held
     by (Ok done) h memory = all good whole said h
     by (Err sunk.Fault) h memory = record { text = text; meant = good; said = said; held = h }
     by (Err sunk.NoMemory) h memory = inl (memory refl, record { text = text; meant = good; said = said; held = h })
 
+    whole_fault : (g : Status) → IsWhole g → g ≡ status.SinkFault → ⊥
+    whole_fault g w e = subst IsWhole e w
+
+    faulted : (r : Result (Unit {0}) SinkEnd) (g : Status) → IsWhole g → status_after r g ≡ status.SinkFault → r ≡ Err sunk.Fault
+    faulted (Ok done) g w e = absurd (whole_fault g w e)
+    faulted (Err sunk.Fault) g w e = refl
+    faulted (Err sunk.NoMemory) g w e = absurd (let h : status.NoMemory ≡ status.SinkFault = e in cc)
+
 whole_by : (refused : Bool) → IsWhole (status_by refused)
 whole_by true = tt
 whole_by false = tt
+
+-- what can be noted where memory was wanting
+abbrev unsaid_of : Option Files → List ℕ → List Entry → Type 0
+unsaid_of files name = WantsInRead (begun first_settings files) name
 
 -- The list.
 
@@ -101,7 +117,7 @@ printable_notes names m (x ∷ xs) e nodes named all = ((all.0.within, all.0.wit
 same_answer : {one other : FetchNote} → entry.Fetched one ∷ [] ≡ entry.Fetched other ∷ [] → other ≡ one
 same_answer e = cc
 
-pub printable : {names : List (List ℕ)} {m : ModelParts} {l : Listing} (answer : FetchNote) (entries : List Entry)
+printable : {names : List (List ℕ)} {m : ModelParts} {l : Listing} (answer : FetchNote) (entries : List Entry)
     → IsListing names m l → entries ≡ entry.Fetched answer ∷ l.notes.items → All (IsPrintable l.names l.model) entries
 printable {names} {m} {l} answer entries i e =
     subst (λ ns. All (IsPrintable ns l.model) entries) (sym i.names_are)
@@ -131,7 +147,7 @@ notes_long : (answer : FetchNote) (found : List (List ℤ)) (e : RunEnd) (nodes 
 notes_long answer [] e nodes = omega arith
 notes_long answer (x ∷ xs) e nodes = let h : length xs < length (entry.Fetched answer ∷ run_notes xs e nodes) = notes_long answer xs e nodes in omega (arith, h)
 
-pub noted : {names : List (List ℕ)} {m : ModelParts} {l : Listing} (answer : FetchNote) (entries : List Entry)
+noted : {names : List (List ℕ)} {m : ModelParts} {l : Listing} (answer : FetchNote) (entries : List Entry)
     → IsListing names m l → entries ≡ entry.Fetched answer ∷ l.notes.items → AreNoted (length entries) l.reply
 noted {names} {m} {l} answer entries i e =
     noted_reply s.ended (named_by names m) s.nodes (length entries) _ l.reply s.reply_is
@@ -143,6 +159,10 @@ noted {names} {m} {l} answer entries i e =
 
     found : (after_run (read_view None [] (named_by names m)) i.found i.nodes).found ≡ s.found
     found = ap (λ (v : View). v.found) s.after_is
+
+pub can_print : {names : List (List ℕ)} {m : ModelParts} {l : Listing} (answer : FetchNote) (entries : List Entry)
+    → IsListing names m l → entries ≡ entry.Fetched answer ∷ l.notes.items → CanPrint l.names l.model entries l.reply
+can_print answer entries i e = record { small = i.small; noted = noted answer entries i e; each = printable answer entries i e }
 
 -- the note of a serial is that of its point
 note_of_point : (found : List (List ℤ)) (e : RunEnd) (nodes place : ℕ) → place < length found
@@ -222,22 +242,25 @@ list_said {files} {name} {bytes} {named} {l} {entries} i read e = record {
         ∙ ap (λ es. printed_text named.names named.parts es l.reply) (e ∙ ap (λ es. entry.Fetched (note.Bytes bytes) ∷ es) s.noted)
         ∙ text_fits (named_of named) (note.Bytes bytes) s.found s.ended s.nodes (after_run (read_view files bytes (named_of named)) i.found i.nodes) l.reply refl found s.reply_is
 
-pub list_outcome : {k : Bool} {bytes : List ℕ} {named : NamedModel} {l : Listing} {before entries : List Entry} {s : Status} {old new : Option (List ℕ)} (i : IsListing named.names named.parts l)
+pub list_ended : {k : Bool} {bytes : List ℕ} {named : NamedModel} {l : Listing} {before entries : List Entry} {s : Status} {old new : SinkState} (i : IsListing named.names named.parts l)
     → before ≡ entry.Fetched (note.Bytes bytes) ∷ l.notes.items → entries ≡ before
-    → Answers k (status_by (is_refused l.reply)) s old new (printed_text l.names l.model before l.reply)
-    → (files : Option Files) (name : List ℕ) → IsRead files name bytes named
-    → Outcome k (IsFileRun files name) (WantsInRead (begun first_settings files) name) entries s old new
-list_outcome {k} {bytes} {named} {l} {before} {entries} {s} {old} {new} i e same a files name read =
-    subst (λ es. Outcome k (IsFileRun files name) (WantsInRead (begun first_settings files) name) es s old new) (sym same)
-    (outcome_of (IsFileRun files name) (WantsInRead (begun first_settings files) name) before (status_by (is_refused l.reply)) (whole_by (is_refused l.reply)) (list_said i read e) a)
+    → Answered k (status_by (is_refused l.reply)) s old new (printed_text l.names l.model before l.reply)
+    → (files : Option Files) (name : List ℕ) → IsRead files name bytes named → Ended k (IsFileRun files name) (unsaid_of files name) entries s old new
+list_ended {k} {bytes} {named} {l} {before} {entries} {s} {old} {new} i e same a files name read =
+    subst (λ es. Ended k (IsFileRun files name) (unsaid_of files name) es s old new) (sym same)
+    (ended_of (IsFileRun files name) (unsaid_of files name) before (status_by (is_refused l.reply)) (whole_by (is_refused l.reply)) (list_said i read e) a)
 
 -- memory was wanting before any text went out
-pub wanting : (k : Bool) (says : List Entry → List ℕ → Status → Type 0) (unsaid : List Entry → Type 0) {entries : List Entry} {s : Status} {old new : Option (List ℕ)}
-    → s ≡ status.NoMemory → new ≡ old → unsaid entries → Outcome k says unsaid entries s old new
-wanting k says unsaid {entries} {s} {old} {new} is held noted = subst (λ t. Outcome k says unsaid entries t old new) (sym is) (inr (record { held = held; noted = noted }))
+wanting : (k : Bool) (says : List Entry → List ℕ → Status → Type 0) (unsaid : List Entry → Type 0) {entries : List Entry} {s : Status} (sink : SinkState)
+    → s ≡ status.NoMemory → unsaid entries → Ended k says unsaid entries s sink sink
+wanting k says unsaid {entries} {s} sink is noted = record {
+  outcome = subst (λ t. Outcome k says unsaid entries t sink.held sink.held) (sym is) (inr (record { held = refl; noted = noted }));
+  later = omega arith;
+  fault = λ h. absurd (let e : status.NoMemory ≡ status.SinkFault = sym is ∙ h in cc);
+}
 
 wants_list : {files : Option Files} {name bytes : List ℕ} {named : NamedModel} {entries : List Entry} → IsRead files name bytes named → entries ≡ entry.Fetched (note.Bytes bytes) ∷ []
-    → WantsInRead (begun first_settings files) name entries
+    → unsaid_of files name entries
 wants_list {files} {name} {bytes} {named} {entries} read e = record { noted = inr (bytes, e, told) }
   where
     s : SaysRead (begun first_settings files) name (entry.Fetched (note.Bytes bytes) ∷ []) (reply.Read (length named.names) (length named.parts.rows))
@@ -250,11 +273,9 @@ wants_list {files} {name} {bytes} {named} {entries} read e = record { noted = in
     told : Fetches (fetched.Bytes bytes) (begun first_settings files).files name (read_limit (begun first_settings files))
     told = subst (λ a. Fetches (answer_of a) (begun first_settings files).files name (read_limit (begun first_settings files))) same s.told
 
-pub wanting_list : (k : Bool) {bytes : List ℕ} {named : NamedModel} {entries : List Entry} {s : Status} {old new : Option (List ℕ)}
-    → s ≡ status.NoMemory → new ≡ old → entries ≡ entry.Fetched (note.Bytes bytes) ∷ []
-    → (files : Option Files) (name : List ℕ) → IsRead files name bytes named
-    → Outcome k (IsFileRun files name) (WantsInRead (begun first_settings files) name) entries s old new
-wanting_list k is held e files name read = wanting k (IsFileRun files name) (WantsInRead (begun first_settings files) name) is held (wants_list read e)
+pub wanting_list : (k : Bool) {bytes : List ℕ} {named : NamedModel} {entries : List Entry} {s : Status} (sink : SinkState) → s ≡ status.NoMemory → entries ≡ entry.Fetched (note.Bytes bytes) ∷ []
+    → (files : Option Files) (name : List ℕ) → IsRead files name bytes named → Ended k (IsFileRun files name) (unsaid_of files name) entries s sink sink
+wanting_list k sink is e files name read = wanting k (IsFileRun files name) (unsaid_of files name) sink is (wants_list read e)
 
 -- a refused read
 refused_said : {files : Option Files} {name : List ℕ} {notes entries : List Entry} (why : Refusal) {after : View} → SaysRead (begun first_settings files) name notes (reply.Refused why) after → entries ≡ notes
@@ -280,17 +301,15 @@ read_refused files name entries note.Absent why says e = refused_said why says e
 read_refused files name entries note.TooLong why says e = refused_said why says e
 read_refused files name entries note.Failed why says e = refused_said why says e
 
-pub refusal_outcome : {k : Bool} {entries : List Entry} {s : Status} {old new : Option (List ℕ)} (files : Option Files) (name : List ℕ) (answer : FetchNote) (why : Refusal)
-    → ReadSays (begun first_settings files) name (ended.Refused answer why) → entries ≡ entry.Fetched answer ∷ [] → Answers k status.SomeRefused s old new (spelling (refusal_wording why))
-    → Outcome k (IsFileRun files name) (WantsInRead (begun first_settings files) name) entries s old new
-refusal_outcome {entries = entries} files name answer why says e a =
-    outcome_of (IsFileRun files name) (WantsInRead (begun first_settings files) name) entries status.SomeRefused tt (read_refused files name entries answer why says e) a
+pub refusal_ended : {k : Bool} {entries : List Entry} {s : Status} {old new : SinkState} (files : Option Files) (name : List ℕ) (answer : FetchNote) (why : Refusal)
+    → ReadSays (begun first_settings files) name (ended.Refused answer why) → entries ≡ entry.Fetched answer ∷ [] → Answered k status.SomeRefused s old new (spelling (refusal_wording why))
+    → Ended k (IsFileRun files name) (unsaid_of files name) entries s old new
+refusal_ended {entries = entries} files name answer why says e a =
+    ended_of (IsFileRun files name) (unsaid_of files name) entries status.SomeRefused tt (read_refused files name entries answer why says e) a
 
-pub unread_outcome : (k : Bool) {entries : List Entry} {s : Status} {old new : Option (List ℕ)} (files : Option Files) (name : List ℕ) (bytes : Option (List ℕ))
-    → ReadSays (begun first_settings files) name (ended.NoMemory bytes) → entries ≡ bytes_notes bytes → s ≡ status.NoMemory → new ≡ old
-    → Outcome k (IsFileRun files name) (WantsInRead (begun first_settings files) name) entries s old new
-unread_outcome k files name bytes says e is held =
-    wanting k (IsFileRun files name) (WantsInRead (begun first_settings files) name) is held (subst (WantsInRead (begun first_settings files) name) (sym e) says)
+pub unread_ended : (k : Bool) {entries : List Entry} {s : Status} (sink : SinkState) (files : Option Files) (name : List ℕ) (bytes : Option (List ℕ))
+    → ReadSays (begun first_settings files) name (ended.NoMemory bytes) → entries ≡ bytes_notes bytes → s ≡ status.NoMemory → Ended k (IsFileRun files name) (unsaid_of files name) entries s sink sink
+unread_ended k sink files name bytes says e is = wanting k (IsFileRun files name) (unsaid_of files name) sink is (subst (unsaid_of files name) (sym e) says)
 
 -- The counts.
 
@@ -302,42 +321,36 @@ own_none test f e (entry.Ended ended nodes ∷ rest) own = rw (e ended nodes) (o
 own_none test f e (entry.Fetched answer ∷ rest) own = absurd (let h : false ≡ true = own in cc)
 own_none test f e (entry.Stored answer ∷ rest) own = absurd (let h : false ≡ true = own in cc)
 
--- one note is the shelf's answer, and the run's own are none
-pub one_answer : {bytes : List ℕ} {entries : List Entry} (before now : ℕ) → OwnNotes (entry.Fetched (note.Bytes bytes)) entries → now ≡ raised before → now ≡ raised_by (count_by is_answer entries) before
-one_answer {bytes} {entries} before now n h =
-    let one : count_by is_answer entries ≡ 1 =
-    sym (length-filter is_answer entries)
-    ∙ ap length (ap (filter is_answer) n.noted ∙ ap (λ es. entry.Fetched (note.Bytes bytes) ∷ es) (own_none is_answer (λ x. refl) (λ e nodes. refl) n.rest n.own)) in
-    subst (λ k. now ≡ raised_by k before) (sym one) h
+-- the run's own notes don't count
+own_counted : (test : Entry → Bool) → ((x : List ℤ) → test (entry.Found x) ≡ false) → ((e : RunEnd) (nodes : ℕ) → test (entry.Ended e nodes) ≡ false)
+    → (first : Entry) (rest : List Entry) → list_all is_own rest ≡ true → count_by test (first ∷ []) ≡ count_by test (first ∷ rest)
+own_counted test f e first rest own =
+    sym (length-filter test (first ∷ [])) ∙ ap length (sym (append-nil (filter test (first ∷ []))))
+    ∙ ap (λ es. length (filter test (first ∷ []) ++ es)) (sym (own_none test f e rest own))
+    ∙ ap length (sym (filter-append test (first ∷ []) rest)) ∙ length-filter test (first ∷ rest)
 
--- no note passes the test, so the count owes nothing
-no_note : (test : Entry → Bool) (entries : List Entry) (before now : ℕ) → filter test entries ≡ [] → RoseBy 0 before now → RoseBy (count_by test entries) before now
-no_note test entries before now none h =
-    let zero_notes : count_by test entries ≡ 0 = sym (length-filter test entries) ∙ ap length none in
-    subst (λ n. RoseBy n before now) (sym zero_notes) h
-
-pub no_absence : {bytes : List ℕ} {entries : List Entry} (before now : ℕ) → OwnNotes (entry.Fetched (note.Bytes bytes)) entries → RoseBy 0 before now → RoseBy (count_by is_absence entries) before now
-no_absence {entries = entries} before now n h = no_note is_absence entries before now (ap (filter is_absence) n.noted ∙ own_none is_absence (λ x. refl) (λ e nodes. refl) n.rest n.own) h
-
-pub no_overrun : {bytes : List ℕ} {entries : List Entry} (before now : ℕ) → OwnNotes (entry.Fetched (note.Bytes bytes)) entries → RoseBy 0 before now → RoseBy (count_by is_overrun entries) before now
-no_overrun {entries = entries} before now n h = no_note is_overrun entries before now (ap (filter is_overrun) n.noted ∙ own_none is_overrun (λ x. refl) (λ e nodes. refl) n.rest n.own) h
-
-pub no_fault : {bytes : List ℕ} {entries : List Entry} (before now : ℕ) → OwnNotes (entry.Fetched (note.Bytes bytes)) entries → RoseBy 0 before now → RoseBy (count_by is_fault entries) before now
-no_fault {entries = entries} before now n h = no_note is_fault entries before now (ap (filter is_fault) n.noted ∙ own_none is_fault (λ x. refl) (λ e nodes. refl) n.rest n.own) h
+pub own_answers : {first : Entry} {entries : List Entry} {old new : ShelfState} → OwnNotes first entries → AreAnswers (first ∷ []) old new → AreAnswers entries old new
+own_answers {first} {entries} {old} {new} n a = subst (λ es. AreAnswers es old new) (sym n.noted) (record {
+  files = a.files;
+  answers = subst (λ k. new.answers ≡ raised_by k old.answers) (own_counted is_answer (λ x. refl) (λ e nodes. refl) first n.rest n.own) a.answers;
+  absences = subst (λ k. RoseBy k old.absences new.absences) (own_counted is_absence (λ x. refl) (λ e nodes. refl) first n.rest n.own) a.absences;
+  overruns = subst (λ k. RoseBy k old.overruns new.overruns) (own_counted is_overrun (λ x. refl) (λ e nodes. refl) first n.rest n.own) a.overruns;
+  faults = subst (λ k. RoseBy k old.faults new.faults) (own_counted is_fault (λ x. refl) (λ e nodes. refl) first n.rest n.own) a.faults;
+})
 
 -- The notes and the words.
 
 pub first_noted : {empty mid whole : List Entry} (rest : List Entry) (first : Entry) → whole ≡ mid ++ rest → mid ≡ empty ++ first ∷ [] → empty ≡ [] → whole ≡ first ∷ rest
 first_noted rest first e f none = e ∙ ap (λ es. es ++ rest) (f ∙ ap (λ es. es ++ first ∷ []) none)
 
-pub usage_outcome : {k : Bool} (files : Option Files) (file : Option (List ℕ)) (entries : List Entry) {s : Status} {old new : Option (List ℕ)} → file ≡ None → entries ≡ []
-    → Answers k status.Usage s old new (spelling wording.Usage) → Outcome k (RunText files file) (RunUnsaid files file) entries s old new
-usage_outcome {k} files file entries {s} {old} {new} none e a =
-    subst (λ f. Outcome k (RunText files f) (RunUnsaid files f) entries s old new) (sym none) (outcome_of IsUsage (λ es. ⊥) entries status.Usage tt (record { nothing_noted = e; line = refl; status_is = refl }) a)
+pub usage_ended : {k : Bool} (files : Option Files) (file : Option (List ℕ)) (entries : List Entry) {s : Status} {old new : SinkState} → file ≡ None → entries ≡ []
+    → Answered k status.Usage s old new (spelling wording.Usage) → Ended k (RunText files file) (RunUnsaid files file) entries s old new
+usage_ended {k} files file entries {s} {old} {new} none e a =
+    subst (λ f. Ended k (RunText files f) (RunUnsaid files f) entries s old new) (sym none) (ended_of IsUsage (λ es. ⊥) entries status.Usage tt (record { nothing_noted = e; line = refl; status_is = refl }) a)
 
 -- there was no room for the shelf's answer
-pub no_room_outcome : (k : Bool) (files : Option Files) (file : Option (List ℕ)) (name : List ℕ) (entries : List Entry) (s : Status) (old : Option (List ℕ))
-    → file ≡ Some name → entries ≡ [] → s ≡ status.NoMemory → Outcome k (RunText files file) (RunUnsaid files file) entries s old old
-no_room_outcome k files file name entries s old some e is =
-    subst (λ f. Outcome k (RunText files f) (RunUnsaid files f) entries s old old) (sym some)
-    (wanting k (RunText files (Some name)) (RunUnsaid files (Some name)) is refl (record { noted = inl e }))
+pub no_room_ended : (k : Bool) (sink : SinkState) (files : Option Files) (file : Option (List ℕ)) (name : List ℕ) (entries : List Entry) (s : Status)
+    → file ≡ Some name → entries ≡ [] → s ≡ status.NoMemory → Ended k (RunText files file) (RunUnsaid files file) entries s sink sink
+no_room_ended k sink files file name entries s some e is =
+    subst (λ f. Ended k (RunText files f) (RunUnsaid files f) entries s sink sink) (sym some)
+    (wanting k (RunText files (Some name)) (RunUnsaid files (Some name)) sink is (record { noted = inl e }))

@@ -8,6 +8,7 @@ use Rattle.sp_engine.specs.declared.journals.Entry.TheVariants as entry
 use Rattle.sp_engine.specs.declared.journals.RunEnd.TheVariants as end
 use Rattle.sp_engine.specs.declared.replies.Reply.{Reply}
 use Rattle.sp_engine.specs.declared.replies.Reply.TheVariants as reply
+use Rattle.sp_engine.specs.Runs.{IsSmall}
 use Rattle.sp_shell.specs.Replies.{done_head, read_text, solution_line, stopped_text}
 use Rattle.sp_shell.specs.Wording.{refusal_wording, spelling}
 
@@ -29,7 +30,7 @@ IsPrintable names m (entry.Ended ended nodes) = Unit {0}
 abbrev pub note_at : List Entry → ℕ → Entry
 note_at notes place = slice_index_or notes place (entry.Ended end.Done 0)
 
--- the lines of the points of these serials. The note of the read has the place 0, so that a serial is its point's place.
+-- the line of the point of this serial. The note of the read has the place 0, so that a serial is its point's place.
 unfoldable pub serial_line : List (List ℕ) → ModelParts → List Entry → ℕ → List ℕ
 serial_line names m notes serial = entry_line names m (note_at notes serial)
 
@@ -40,9 +41,16 @@ AreNoted count (reply.Read variables rows) = Unit {0}
 AreNoted count (reply.Stopped nodes) = Unit {0}
 AreNoted count (reply.Refused why) = Unit {0}
 
+-- a reply whose optimum is small, whose serials are places of notes, and notes that can be printed
+pub record CanPrint (names : List (List ℕ)) (m : ModelParts) (notes : List Entry) (r : Reply) : Type 0 where
+  pub small : IsSmall r
+  pub noted : AreNoted (length notes) r
+  pub each : All (IsPrintable names m) notes
+
 -- what is printed of a reply
 unfoldable pub printed_text : List (List ℕ) → ModelParts → List Entry → Reply → List ℕ
-printed_text names m notes (reply.Listed optimum serials) = done_head m.maximize optimum (length serials) ++ flat_map (serial_line names m notes) serials
+printed_text names m notes (reply.Listed optimum serials) =
+    done_head m.maximize optimum (length serials) ++ flat_map (serial_line names m notes) serials
 printed_text names m notes (reply.Read variables rows) = read_text variables rows
 printed_text names m notes (reply.Stopped nodes) = stopped_text nodes
 printed_text names m notes (reply.Refused why) = spelling (refusal_wording why)

@@ -1,5 +1,6 @@
 -- What a run is asked, notes, prints and answers.
-use Rattle.std.specs.Prelude.{◌≡◌, ℕ, ◌⊎◌, ◌==◌, Bool, true, false, IsTrue, if◌then◌else◌, List, [], ◌∷◌, ◌++◌, Option, None, Some}
+use Rattle.std.specs.Prelude.{◌≡◌, ℕ, ◌⊎◌, ◌==◌, Bool, true, false, IsTrue, if◌then◌else◌}
+use Rattle.std.specs.Prelude.{List, [], ◌∷◌, ◌++◌, Option, None, Some}
 use Rattle.sp_base.specs.Told.{append, AppendsPart}
 use Rattle.sp_base.specs.Shelf.{Files}
 use Rattle.sp_base.specs.declared.statuses.Status.{Status}
@@ -69,48 +70,57 @@ pub record IsUsage (entries : List Entry) (text : List ℕ) (s : Status) : Type 
   pub status_is : s ≡ status.Usage
 
 -- the words name this file
-pub record IsFileRun (files : Option Files) (name : List ℕ) (entries : List Entry) (text : List ℕ) (s : Status) : Type 0 where
+pub record IsFileRun (files : Option Files) (name : List ℕ) (entries : List Entry) (text : List ℕ) (s : Status)
+    : Type 0 where
   pub refused : Bool
   pub run : OneRun (begun first_settings files) name entries text refused
   pub status_is : s ≡ status_by refused
 
+-- what a run says of its notes, its text and its status; and with which notes memory can be wanting before any text
+abbrev pub Saying : Type 1
+Saying = List Entry → List ℕ → Status → Type 0
+
+abbrev pub Unsaid : Type 1
+Unsaid = List Entry → Type 0
+
 -- what a run says over a shelf with these files, once it is known which file the words name
-abbrev pub RunText : Option Files → Option (List ℕ) → List Entry → List ℕ → Status → Type 0
+abbrev pub RunText : Option Files → Option (List ℕ) → Saying
 RunText files None = IsUsage
 RunText files (Some name) = IsFileRun files name
 
 -- the notes with which memory can be wanting before any text goes out: none where the words are no reading
-abbrev pub RunUnsaid : Option Files → Option (List ℕ) → List Entry → Type 0
+abbrev pub RunUnsaid : Option Files → Option (List ℕ) → Unsaid
 RunUnsaid files None = λ entries. ⊥
 RunUnsaid files (Some name) = WantsInRead (begun first_settings files) name
 
 -- What went out.
 
 -- the whole text
-pub record PutsAll (says : List Entry → List ℕ → Status → Type 0) (entries : List Entry) (s : Status) (old new : Option (List ℕ)) : Type 0 where
+pub record PutsAll (says : Saying) (entries : List Entry) (s : Status) (old new : Option (List ℕ)) : Type 0 where
   pub text : List ℕ
   pub said : says entries text s
   pub held : new ≡ append old text
 
 -- a front part of the text
-pub record PutsPart (says : List Entry → List ℕ → Status → Type 0) (entries : List Entry) (old new : Option (List ℕ)) : Type 0 where
+pub record PutsPart (says : Saying) (entries : List Entry) (old new : Option (List ℕ)) : Type 0 where
   pub text : List ℕ
   pub meant : Status
   pub said : says entries text meant
   pub held : AppendsPart old new text
 
 -- nothing, and no more was noted than that
-pub record PutsNothing (unsaid : List Entry → Type 0) (entries : List Entry) (old new : Option (List ℕ)) : Type 0 where
+pub record PutsNothing (unsaid : Unsaid) (entries : List Entry) (old new : Option (List ℕ)) : Type 0 where
   pub held : new ≡ old
   pub noted : unsaid entries
 
 -- What went out when a run ended with this status. takes_memory: whether the sink's writes can answer that there is no
 -- memory.
-abbrev pub Outcome : Bool → (List Entry → List ℕ → Status → Type 0) → (List Entry → Type 0) → List Entry → Status → Option (List ℕ) → Option (List ℕ) → Type 0
+abbrev pub Outcome : Bool → Saying → Unsaid → List Entry → Status → Option (List ℕ) → Option (List ℕ) → Type 0
 Outcome takes_memory says unsaid entries status.Clean old new = PutsAll says entries status.Clean old new
 Outcome takes_memory says unsaid entries status.SomeRefused old new = PutsAll says entries status.SomeRefused old new
 Outcome takes_memory says unsaid entries status.Usage old new = PutsAll says entries status.Usage old new
 Outcome takes_memory says unsaid entries status.SinkFault old new = PutsPart says entries old new
-Outcome takes_memory says unsaid entries status.NoMemory old new = (IsTrue takes_memory × PutsPart says entries old new) ⊎ PutsNothing unsaid entries old new
+Outcome takes_memory says unsaid entries status.NoMemory old new =
+    (IsTrue takes_memory × PutsPart says entries old new) ⊎ PutsNothing unsaid entries old new
 Outcome takes_memory says unsaid entries status.SourceFault old new = ⊥
 Outcome takes_memory says unsaid entries status.StreamTooLong old new = ⊥

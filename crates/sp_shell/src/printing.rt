@@ -2,7 +2,8 @@
 ghost use Rattle.std.specs.Prelude.{◌≡◌, ◌≤◌, ◌^◌, ◌++◌, length, IfSome, unsigned_abs};
 ghost use Rattle.std.specs.Fmt.{decimal, signed_decimal};
 ghost use Rattle.sp_base.specs.Writing.{Writes};
-ghost use Rattle.sp_shell.specs.Replies.{done_head, in_user_direction, named_value, named_values, optimum_line, point_line, read_text, stopped_text};
+ghost use Rattle.sp_shell.specs.Replies.{done_head, in_user_direction, named_value, named_values, optimum_line};
+ghost use Rattle.sp_shell.specs.Replies.{point_line, read_text, stopped_text};
 ghost use Rattle.sp_shell.specs.Wording.{spelling};
 
 use crate::wordings::{Wording, bytes_of};
@@ -87,7 +88,8 @@ fn print_objective<'a, K: Sink>(
     then: &'a [u8],
 ) -> Result<(), SinkEnd>
     requires { unsigned_abs value.now ≤ 10 ^ 36 }
-    ensures written { Writes K.Sink result sink.old sink.new (signed_decimal (in_user_direction maximize value.now) ++ then.now) }
+    ensures written { let shown = in_user_direction maximize value.now in
+        Writes K.Sink result sink.old sink.new (signed_decimal shown ++ then.now) }
 {
     let mut buffer = Buffer::new();
     let shown = user_value(maximize, value);
@@ -104,7 +106,9 @@ fn print_objective_and_values<K: Sink>(
 ) -> Result<(), SinkEnd>
     requires long { length values.now ≡ length names.now }
     requires small { unsigned_abs value.now ≤ 10 ^ 36 }
-    ensures written { Writes K.Sink result sink.old sink.new (signed_decimal (in_user_direction maximize value.now) ++ spelling Wording.Colon ++ named_values names.now values.now) }
+    ensures written { let shown = in_user_direction maximize value.now in
+        Writes K.Sink result sink.old sink.new
+        (signed_decimal shown ++ spelling Wording.Colon ++ named_values names.now values.now) }
 {
     texts_join();
     match print_objective(sink, maximize, value, bytes_of(Wording::Colon)) {
@@ -155,7 +159,8 @@ fn print_optimum<K: Sink>(sink: &mut K, maximize: bool, best: &Option<i128>) -> 
 
 /// Prints the line with the number of listed points.
 fn print_number<K: Sink>(sink: &mut K, number: usize) -> Result<(), SinkEnd>
-    ensures written { Writes K.Sink result sink.old sink.new (spelling Wording.Solutions ++ decimal number ++ spelling Wording.LineEnd) }
+    ensures written { Writes K.Sink result sink.old sink.new
+        (spelling Wording.Solutions ++ decimal number ++ spelling Wording.LineEnd) }
 {
     let mut buffer = Buffer::new();
     put_three(
@@ -184,7 +189,8 @@ pub fn print_stopped<K: Sink>(sink: &mut K, nodes: u32) -> Result<(), SinkEnd>
 /// Prints what stands before the solution lines of a complete list.
 fn print_status<K: Sink>(sink: &mut K, maximize: bool, best: &Option<i128>) -> Result<(), SinkEnd>
     requires { IfSome best.now (λ v. unsigned_abs v ≤ 10 ^ 36) }
-    ensures written { Writes K.Sink result sink.old sink.new (spelling Wording.StatusDone ++ optimum_line maximize best.now) }
+    ensures written { Writes K.Sink result sink.old sink.new
+        (spelling Wording.StatusDone ++ optimum_line maximize best.now) }
 {
     texts_join();
     match write_all(sink, bytes_of(Wording::StatusDone)) {
@@ -235,7 +241,8 @@ fn print_variables<K: Sink>(sink: &mut K, variables: usize) -> Result<(), SinkEn
 
 /// Prints the number of rows of a model that was read.
 fn print_rows<K: Sink>(sink: &mut K, rows: usize) -> Result<(), SinkEnd>
-    ensures written { Writes K.Sink result sink.old sink.new (spelling Wording.Rows ++ decimal rows ++ spelling Wording.LineEnd) }
+    ensures written { Writes K.Sink result sink.old sink.new
+        (spelling Wording.Rows ++ decimal rows ++ spelling Wording.LineEnd) }
 {
     let mut buffer = Buffer::new();
     put_three(

@@ -1,11 +1,10 @@
 //! The replies, whose listed points stand among the notes. Nothing here takes memory.
 ghost use Rattle.std.specs.Prelude.{◌≡◌, ◌<◌, ◌≤◌, ◌^◌, ◌++◌, All, length, flat_map, IfSome, unsigned_abs};
 ghost use Rattle.sp_base.specs.Writing.{Writes};
-ghost use Rattle.sp_engine.specs.Runs.{IsSmall};
 ghost use Rattle.sp_model.specs.Boxes.{IsWithin};
 ghost use Rattle.sp_model.specs.Models.{root_of};
 ghost use Rattle.sp_shell.specs.Replies.{done_head, solution_line};
-ghost use Rattle.sp_shell.specs.InnerReplies.{AreNoted, IsPrintable, entry_line, printed_text, serial_line};
+ghost use Rattle.sp_shell.specs.InnerReplies.{CanPrint, IsPrintable, entry_line, printed_text, serial_line};
 
 use crate::printing::{print_head, print_line, print_read, print_stopped};
 use crate::wordings::{bytes_of, wording_of};
@@ -75,7 +74,8 @@ fn print_serials<K: Sink>(
 ) -> Result<(), SinkEnd>
     requires noted { All (λ serial. serial < length notes.now) serials.now }
     requires notes { All (IsPrintable names.now model.now) notes.now }
-    ensures written { Writes K.Sink result sink.old sink.new (flat_map (serial_line names.now model.now notes.now) serials.now) }
+    ensures written { Writes K.Sink result sink.old sink.new
+        (flat_map (serial_line names.now model.now notes.now) serials.now) }
 {
     texts_grow();
     for serial in serials {
@@ -99,7 +99,9 @@ fn print_listed<K: Sink>(
     requires optimum { IfSome optimum.now (λ v. unsigned_abs v ≤ 10 ^ 36) }
     requires noted { All (λ serial. serial < length notes.now) serials.now }
     requires notes { All (IsPrintable names.now model.now) notes.now }
-    ensures written { Writes K.Sink result sink.old sink.new (done_head model.now.maximize optimum.now (length serials.now) ++ flat_map (serial_line names.now model.now notes.now) serials.now) }
+    ensures written { let head = done_head model.now.maximize optimum.now (length serials.now) in
+        Writes K.Sink result sink.old sink.new
+        (head ++ flat_map (serial_line names.now model.now notes.now) serials.now) }
 {
     texts_join();
     let maximize = model.parts().maximize;
@@ -118,9 +120,7 @@ pub fn print_reply<K: Sink>(
     reply: &Reply,
     notes: &[Entry],
 ) -> Result<(), SinkEnd>
-    requires small { IsSmall reply.now }
-    requires noted { AreNoted (length notes.now) reply.now }
-    requires notes { All (IsPrintable names.now model.now) notes.now }
+    requires { CanPrint names.now model.now notes.now reply.now }
     ensures written { Writes K.Sink result sink.old sink.new (printed_text names.now model.now notes.now reply.now) }
 {
     match reply {

@@ -458,8 +458,8 @@ fn twelve_list(alloc: Global) -> Result<Vec<u8>, AllocError> {
     Ok(text)
 }
 
-/// Whether the run over the file of twelve variables ends with this status and prints this front of the text, over a sink
-/// that takes so many bytes a call and fails at this call.
+/// Whether the run over the file of twelve variables ends with this status and prints this front of the text, over a
+/// sink that takes so many bytes a call and fails at this call.
 fn prints_twelve(
     alloc: Global,
     text: &[u8],

@@ -1,20 +1,17 @@
 //! The top call: one run over a source, a shelf and a sink.
-ghost use Rattle.std.specs.Prelude.{◌≡◌, ◌≤◌, ◌^◌, ◌<◌, ◌++◌, ◌∷◌, [], ◌↔◌, None, All, List, ℕ, Option, length, count_by, flat_map, Err, IfSome, MatchOption, Some, vec_len, vec_capacity, unsigned_abs};
+ghost use Rattle.std.specs.Prelude.{◌≡◌, ◌≤◌, ◌<◌, ◌++◌, ◌∷◌, [], None, List, ℕ, Option, length, count_by, MatchOption};
+ghost use Rattle.std.specs.Prelude.{vec_len, vec_capacity};
 ghost use Rattle.sp_base.specs.Buffers.{inner_of, waiting_of};
 ghost use Rattle.sp_base.specs.Counts.{Rose, RoseBy, raised_by};
 ghost use Rattle.sp_base.specs.Shelf.{Files};
 ghost use Rattle.sp_base.specs.Status.{code_of};
-ghost use Rattle.sp_base.specs.Writing.{Puts, Sends, Writes};
-ghost use Rattle.sp_engine.specs.declared.reading.ReadEnd.TheVariants as ended;
-ghost use Rattle.sp_engine.specs.LegalRuns.{first_settings};
-ghost use Rattle.sp_engine.specs.Notes.{is_answer, is_absence, is_overrun, is_fault};
-ghost use Rattle.sp_engine.specs.ReadEnds.{ReadSays};
-ghost use Rattle.sp_engine.specs.Reading.{WantsInRead};
-ghost use Rattle.sp_engine.specs.Runs.{IsSmall};
-ghost use Rattle.sp_engine.specs.Views.{begun};
+ghost use Rattle.sp_base.specs.Writing.{Sends};
+ghost use Rattle.sp_engine.specs.Notes.{AreAnswers, is_answer, is_absence, is_overrun, is_fault, shelf_state};
+ghost use Rattle.sp_engine.specs.ReadEnds.{bytes_notes};
+ghost use Rattle.sp_engine.specs.Replies.{is_refused};
 ghost use Rattle.sp_model.specs.Rules.{IsLawful};
-ghost use Rattle.sp_shell.specs.InnerReplies.{AreNoted, IsPrintable, printed_text};
-ghost use Rattle.sp_shell.specs.Runs.{file_word, RunText, RunUnsaid, IsFileRun, IsUsage, Outcome};
+ghost use Rattle.sp_shell.specs.InnerReplies.{CanPrint, printed_text};
+ghost use Rattle.sp_shell.specs.Runs.{file_word, status_by, RunText, RunUnsaid, Outcome};
 ghost use Rattle.sp_shell.specs.Wording.{refusal_wording, spelling};
 
 use crate::replying::print_reply;
@@ -44,10 +41,7 @@ impl Ending {
 }
 
 ghost use Rattle.sp_shell.specs.InnerRuns.{IsRead, OwnNotes};
-ghost use Rattle.sp_shell.specs.InnerEndings.{status_after, Answers, IsWhole};
-ghost use Rattle.sp_shell.specs.Runs.{status_by};
-ghost use Rattle.sp_engine.specs.Replies.{is_refused};
-ghost use Rattle.sp_engine.specs.ReadEnds.{bytes_notes};
+ghost use Rattle.sp_shell.specs.InnerEndings.{status_after, Answers, EndsFile, IsWhole};
 
 /// The ending with this status and these notes.
 fn end_with(status: Status, entries: Vec<Entry>) -> Ending
@@ -89,11 +83,10 @@ fn send_reply<K: Sink>(
     reply: &Reply,
     notes: &[Entry],
 ) -> Result<(), SinkEnd>
-    requires empty { waiting_of buffer.old ≡ [] }
-    requires small { IsSmall reply.now }
-    requires noted { AreNoted (length notes.now) reply.now }
-    requires notes { All (IsPrintable names.now model.now) notes.now }
-    ensures sent { Sends K.Sink result (inner_of buffer.old) (inner_of buffer.new) (printed_text names.now model.now notes.now reply.now) }
+    requires waits { waiting_of buffer.old ≡ [] }
+    requires printable { CanPrint names.now model.now notes.now reply.now }
+    ensures { Sends K.Sink result (inner_of buffer.old) (inner_of buffer.new)
+        (printed_text names.now model.now notes.now reply.now) }
 {
     let written = print_reply(buffer, names, model, reply, notes);
     buffer.finish(written)
@@ -108,14 +101,10 @@ fn end_with_list<K: Sink>(
     entries: Vec<Entry>,
 ) -> Ending
     requires waits { waiting_of buffer.old ≡ [] }
-    requires small { IsSmall reply.now }
-    requires noted { AreNoted (length entries.items) reply.now }
-    requires notes { All (IsPrintable names.now model.now) entries.items }
+    requires printable { CanPrint names.now model.now entries.items reply.now }
     ensures entries { result.journal.entries ≡ entries.items }
-    ensures answered { Answers K.takes_memory (status_by (is_refused reply.now)) result.status (K.held (inner_of buffer.old)) (K.held (inner_of buffer.new)) (printed_text names.now model.now entries.items reply.now) }
-    ensures later { K.faults (inner_of buffer.old) ≤ K.faults (inner_of buffer.new) }
-    ensures same { K.name (inner_of buffer.new) ≡ K.name (inner_of buffer.old) }
-    ensures fault { result.status ≡ Status.SinkFault → Rose (K.faults (inner_of buffer.old)) (K.faults (inner_of buffer.new)) }
+    ensures answered { Answers K.Sink (status_by (is_refused reply.now)) result.status (inner_of buffer.old)
+        (inner_of buffer.new) (printed_text names.now model.now entries.items reply.now) }
 {
     let sent = send_reply(buffer, names, model, reply, entries.as_slice());
     end_with(status_of(sent, status_for(reply)), entries)
@@ -146,11 +135,9 @@ fn list_model<K: Sink>(
     requires waits { waiting_of buffer.old ≡ [] }
     requires room { vec_len entries < vec_capacity entries }
     ensures notes { OwnNotes (Entry.Fetched (FetchNote.Bytes bytes)) result.journal.entries }
-    ensures outcome { (files : Option Files) (name : List ℕ) → IsRead files name bytes named
-        → Outcome K.takes_memory (IsFileRun files name) (WantsInRead (begun first_settings files) name) result.journal.entries result.status (K.held (inner_of buffer.old)) (K.held (inner_of buffer.new)) }
-    ensures later { K.faults (inner_of buffer.old) ≤ K.faults (inner_of buffer.new) }
     ensures same { K.name (inner_of buffer.new) ≡ K.name (inner_of buffer.old) }
-    ensures fault { result.status ≡ Status.SinkFault → Rose (K.faults (inner_of buffer.old)) (K.faults (inner_of buffer.new)) }
+    ensures ends { (files : Option Files) (name : List ℕ) → IsRead files name bytes named
+        → EndsFile K.Sink files name result (inner_of buffer.old) (inner_of buffer.new) }
 {
     push_note(&mut entries, Entry::Fetched(FetchNote::Bytes(bytes)));
     let Ok(listing) = list(alloc, named) else {
@@ -181,10 +168,8 @@ fn list_buffered<K: Sink>(
     requires empty { entries.items ≡ [] }
     requires room { vec_len entries < vec_capacity entries }
     ensures notes { OwnNotes (Entry.Fetched (FetchNote.Bytes bytes)) result.journal.entries }
-    ensures outcome { (files : Option Files) (name : List ℕ) → IsRead files name bytes named
-        → Outcome K.takes_memory (IsFileRun files name) (WantsInRead (begun first_settings files) name) result.journal.entries result.status (K.held sink.old) (K.held sink.new) }
-    ensures later { K.faults sink.old ≤ K.faults sink.new }
-    ensures fault { result.status ≡ Status.SinkFault → Rose (K.faults sink.old) (K.faults sink.new) }
+    ensures ends { (files : Option Files) (name : List ℕ) → IsRead files name bytes named
+        → EndsFile K.Sink files name result sink.old sink.new }
 {
     match Buffered::new(alloc, sink) {
         Err(_sink) => {
@@ -209,9 +194,7 @@ fn end_with_line<K: Sink>(
 ) -> Ending
     requires { IsWhole intended }
     ensures entries { result.journal.entries ≡ entries.items }
-    ensures answered { Answers K.takes_memory intended result.status (K.held sink.old) (K.held sink.new) (spelling line) }
-    ensures later { K.faults sink.old ≤ K.faults sink.new }
-    ensures fault { result.status ≡ Status.SinkFault → Rose (K.faults sink.old) (K.faults sink.new) }
+    ensures answered { Answers K.Sink intended result.status sink.old sink.new (spelling line) }
 {
     let sent = write_all(sink, bytes_of(line));
     end_with(status_of(sent, intended), entries)
@@ -222,9 +205,8 @@ fn refuse<K: Sink>(sink: &mut K, mut entries: Vec<Entry>, answer: FetchNote, why
     requires empty { entries.items ≡ [] }
     requires room { vec_len entries < vec_capacity entries }
     ensures entries { result.journal.entries ≡ Entry.Fetched answer ∷ [] }
-    ensures answered { Answers K.takes_memory Status.SomeRefused result.status (K.held sink.old) (K.held sink.new) (spelling (refusal_wording why)) }
-    ensures later { K.faults sink.old ≤ K.faults sink.new }
-    ensures fault { result.status ≡ Status.SinkFault → Rose (K.faults sink.old) (K.faults sink.new) }
+    ensures answered { Answers K.Sink Status.SomeRefused result.status sink.old sink.new
+        (spelling (refusal_wording why)) }
 {
     push_note(&mut entries, Entry::Fetched(answer));
     end_with_line(sink, entries, wording_of(why), Status::SomeRefused)
@@ -256,14 +238,8 @@ fn read_and_list<F: Shelf, K: Sink>(
 ) -> Ending
     requires empty { entries.items ≡ [] }
     requires room { vec_len entries < vec_capacity entries }
-    ensures outcome { Outcome K.takes_memory (IsFileRun (F.files shelf.old) name.now) (WantsInRead (begun first_settings (F.files shelf.old)) name.now) result.journal.entries result.status (K.held sink.old) (K.held sink.new) }
-    ensures fault { result.status ≡ Status.SinkFault → Rose (K.faults sink.old) (K.faults sink.new) }
-    ensures later { K.faults sink.old ≤ K.faults sink.new }
-    ensures files { F.files shelf.new ≡ F.files shelf.old }
-    ensures answers { F.answers shelf.new ≡ raised_by (count_by is_answer result.journal.entries) (F.answers shelf.old) }
-    ensures absences { RoseBy (count_by is_absence result.journal.entries) (F.absences shelf.old) (F.absences shelf.new) }
-    ensures overruns { RoseBy (count_by is_overrun result.journal.entries) (F.overruns shelf.old) (F.overruns shelf.new) }
-    ensures shelf_faults { RoseBy (count_by is_fault result.journal.entries) (F.faults shelf.old) (F.faults shelf.new) }
+    ensures ends { EndsFile K.Sink (F.files shelf.old) name.now result sink.old sink.new }
+    ensures noted { AreAnswers result.journal.entries (shelf_state F.Shelf shelf.old) (shelf_state F.Shelf shelf.new) }
 {
     match read(alloc, name, 0, shelf) {
         ReadEnd::Accepted { bytes, named } => list_buffered(alloc, bytes, named, entries, sink),
@@ -288,12 +264,12 @@ fn named_file(words: &[Text]) -> Option<&Text>
 /// Carries out the words of the command line: asks the shelf for the model file that they name, lists all its optimal
 /// points, and prints the reply to the sink. The source isn't read.
 ///
-/// The text that is printed, the journal and the status fit one another, whatever the words and whatever the shelf gives:
-/// `optimum` is the optimum, the solution lines are exactly the feasible points of that objective, each once, in lexicographic
-/// order, and `nodelimit` comes only where the tree of the model has no room.
+/// The text that is printed, the journal and the status fit one another, whatever the words and whatever the shelf
+/// gives: `optimum` is the optimum, the solution lines are exactly the feasible points of that objective, each once, in
+/// lexicographic order, and `nodelimit` comes only where the tree of the model has no room.
 ///
-/// `NoMemory` comes in the middle of the text only from a sink that takes memory, and else before any text went out, while
-/// the file was fetched or its model listed.
+/// `NoMemory` comes in the middle of the text only from a sink that takes memory, and else before any text went out,
+/// while the file was fetched or its model listed.
 pub fn run<S: Source, F: Shelf, K: Sink>(
     alloc: Global,
     words: &WordList,
@@ -302,17 +278,23 @@ pub fn run<S: Source, F: Shelf, K: Sink>(
     sink: &mut K,
 ) -> Ending
     // what was printed, noted and answered
-    ensures outcome { Outcome K.takes_memory (RunText (F.files shelf.old) (file_word words.now)) (RunUnsaid (F.files shelf.old) (file_word words.now)) result.journal.entries result.status (K.held sink.old) (K.held sink.new) }
+    ensures outcome { let file = file_word words.now in
+        Outcome K.takes_memory (RunText (F.files shelf.old) file) (RunUnsaid (F.files shelf.old) file)
+        result.journal.entries result.status (K.held sink.old) (K.held sink.new) }
 
     // the cause of a sink's fault
     ensures sink_fault { result.status ≡ Status.SinkFault → Rose (K.faults sink.old) (K.faults sink.new) }
     ensures sink_later { K.faults sink.old ≤ K.faults sink.new }
 
     // each answer of the shelf is noted, and its counts rose by as many
-    ensures answers { F.answers shelf.new ≡ raised_by (count_by is_answer result.journal.entries) (F.answers shelf.old) }
-    ensures absences { RoseBy (count_by is_absence result.journal.entries) (F.absences shelf.old) (F.absences shelf.new) }
-    ensures overruns { RoseBy (count_by is_overrun result.journal.entries) (F.overruns shelf.old) (F.overruns shelf.new) }
-    ensures shelf_faults { RoseBy (count_by is_fault result.journal.entries) (F.faults shelf.old) (F.faults shelf.new) }
+    ensures answers { let notes = count_by is_answer result.journal.entries in
+        F.answers shelf.new ≡ raised_by notes (F.answers shelf.old) }
+    ensures absences { let notes = count_by is_absence result.journal.entries in
+        RoseBy notes (F.absences shelf.old) (F.absences shelf.new) }
+    ensures overruns { let notes = count_by is_overrun result.journal.entries in
+        RoseBy notes (F.overruns shelf.old) (F.overruns shelf.new) }
+    ensures shelf_faults { let notes = count_by is_fault result.journal.entries in
+        RoseBy notes (F.faults shelf.old) (F.faults shelf.new) }
 
     // nothing else changes
     ensures files { F.files shelf.new ≡ F.files shelf.old }

@@ -1,6 +1,6 @@
 use Rattle.std.proofs.Common.{◌∙◌, sym, ap}
 use Rattle.sp_engine.specs.Views.{limit_after}
-use Rattle.sp_engine.proofs.ReadLemmas.{bytes_say, bytes_run, bytes_counted, bytes_present, bytes_short, bytes_sound, absent_says, too_long_says, failed_says, nothing_says}
+use Rattle.sp_engine.proofs.ReadLemmas.{bytes_say, bytes_run, bytes_answered, absent_says, too_long_says, failed_says, nothing_says}
 use Rattle.sp_engine.proofs.reading.read.Goals as goal
 
 pub returns-in-Bytes-clause-says : goal.returns-in-Bytes-clause-says
@@ -10,17 +10,10 @@ returns-in-Bytes-clause-says g c =
 pub returns-in-Bytes-clause-runnable : goal.returns-in-Bytes-clause-runnable
 returns-in-Bytes-clause-runnable g c = bytes_run _ _ c.read_bytes.ensures
 
-pub returns-in-Bytes-clause-answers : goal.returns-in-Bytes-clause-answers
-returns-in-Bytes-clause-answers g c = bytes_counted _ _ _ _ c.read_bytes.ensures c.in-Bytes.ensures.counted
-
-pub returns-in-Bytes-clause-absences : goal.returns-in-Bytes-clause-absences
-returns-in-Bytes-clause-absences g c = bytes_present _ _ _ _ c.read_bytes.ensures c.read.ensures.absences_later
-
-pub returns-in-Bytes-clause-overruns : goal.returns-in-Bytes-clause-overruns
-returns-in-Bytes-clause-overruns g c = bytes_short _ _ _ _ c.read_bytes.ensures c.read.ensures.overruns_later
-
-pub returns-in-Bytes-clause-faults : goal.returns-in-Bytes-clause-faults
-returns-in-Bytes-clause-faults g c = bytes_sound _ _ _ _ c.read_bytes.ensures c.read.ensures.faults_later
+pub returns-in-Bytes-clause-noted : goal.returns-in-Bytes-clause-noted
+returns-in-Bytes-clause-noted g c =
+    bytes_answered _ _ _ _ c.read_bytes.ensures c.read.ensures.unchanged c.in-Bytes.ensures.counted c.read.ensures.absences_later
+    c.read.ensures.overruns_later c.read.ensures.faults_later
 
 pub returns-in-Absent-clause-says : goal.returns-in-Absent-clause-says
 returns-in-Absent-clause-says g c = λ view f n. absent_says _ _ _ c.in-Absent.ensures.answer view f (ap limit_after n ∙ sym c.limit_after.ensures)

@@ -1,23 +1,18 @@
-use Rattle.std.specs.Prelude.{All}
 use Rattle.std.proofs.Common.{◌≡◌, ◌∷◌, ◌∙◌, sym, subst}
+use Rattle.sp_base.specs.Writing.{state_of}
 use Rattle.sp_engine.specs.declared.journals.Entry.TheVariants as entry
 use Rattle.sp_engine.specs.declared.journals.FetchNote.TheVariants as note
 use Rattle.sp_engine.specs.Replies.{is_refused}
 use Rattle.sp_shell.specs.InnerEndings.{Answers}
-use Rattle.sp_shell.specs.InnerReplies.{IsPrintable, printed_text}
+use Rattle.sp_shell.specs.InnerReplies.{CanPrint, printed_text}
 use Rattle.sp_shell.specs.Runs.{status_by}
-use Rattle.sp_shell.proofs.RunLemmas.{first_noted, listing_notes, printable, noted, list_outcome}
+use Rattle.sp_shell.proofs.RunLemmas.{first_noted, listing_notes, can_print, list_ended}
 use Rattle.sp_shell.proofs.runs.list_model.Goals as goal
 
-pub end_with_list-requires-clause-noted : goal.end_with_list-requires-clause-noted
-end_with_list-requires-clause-noted g c =
-    noted (note.Bytes c.args.bytes) c.append.new.self.items c.in-Ok.ensures
-    (first_noted c.in-Ok.listing.notes.items _ c.in-Ok-append.ensures.items c.push_note.ensures c.requires.empty)
-
-pub end_with_list-requires-clause-notes : goal.end_with_list-requires-clause-notes
-end_with_list-requires-clause-notes g c =
-    subst (λ ns. All (IsPrintable ns c.in-Ok.listing.model) c.append.new.self.items) (sym c.as_slice.ensures)
-    (printable (note.Bytes c.args.bytes) c.append.new.self.items c.in-Ok.ensures
+pub end_with_list-requires-clause-printable : goal.end_with_list-requires-clause-printable
+end_with_list-requires-clause-printable g c =
+    subst (λ ns. CanPrint ns c.in-Ok.listing.model c.append.new.self.items c.in-Ok.listing.reply) (sym c.as_slice.ensures)
+    (can_print (note.Bytes c.args.bytes) c.append.new.self.items c.in-Ok.ensures
     (first_noted c.in-Ok.listing.notes.items _ c.in-Ok-append.ensures.items c.push_note.ensures c.requires.empty))
 
 pub returns-clause-notes : goal.returns-clause-notes
@@ -25,10 +20,10 @@ returns-clause-notes g c =
     listing_notes (entry.Fetched (note.Bytes c.args.bytes)) c.end_with_list.result.journal.entries c.in-Ok.ensures
     (c.end_with_list.ensures.entries ∙ first_noted c.in-Ok.listing.notes.items _ c.in-Ok-append.ensures.items c.push_note.ensures c.requires.empty)
 
-pub returns-clause-outcome : goal.returns-clause-outcome
-returns-clause-outcome g c =
-    list_outcome c.in-Ok.ensures
+pub returns-clause-ends : goal.returns-clause-ends
+returns-clause-ends g c =
+    list_ended c.in-Ok.ensures
     (first_noted c.in-Ok.listing.notes.items (entry.Fetched (note.Bytes c.args.bytes)) c.in-Ok-append.ensures.items c.push_note.ensures c.requires.empty)
     c.end_with_list.ensures.entries
-    (subst (λ ns. Answers g.K.Sink.takes_memory (status_by (is_refused c.in-Ok.listing.reply)) c.end_with_list.result.status (g.K.Sink.held c.args.buffer.now.inner) (g.K.Sink.held c.end_with_list.new.buffer.inner) (printed_text ns c.in-Ok.listing.model c.append.new.self.items c.in-Ok.listing.reply))
+    (subst (λ ns. Answers g.K.Sink (status_by (is_refused c.in-Ok.listing.reply)) c.end_with_list.result.status c.args.buffer.now.inner c.end_with_list.new.buffer.inner (printed_text ns c.in-Ok.listing.model c.append.new.self.items c.in-Ok.listing.reply))
     c.as_slice.ensures c.end_with_list.ensures.answered)

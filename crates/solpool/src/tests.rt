@@ -30,6 +30,9 @@ fn files_are_kept_and_read(rt: HostRuntime) -> Result<(), Fail> {
     for (limit, expected) in [(3u64, b"abc".as_slice()), (2, b"too long".as_slice())] {
         assert_eq!(rt; shown(&shelf.read(&name, limit)), expected);
     }
+    let long = vec![in alloc; b'x'; 70_000]?;
+    assert_eq!(rt; shelf.write(&name, long.as_slice()), Stored::Kept);
+    assert_eq!(rt; shown(&shelf.read(&name, 70_000)), long.as_slice());
     fs::remove_file(&rt, path.as_str())?;
     let others = [
         (b"/".as_slice(), b"failed".as_slice()),

@@ -5,6 +5,7 @@ import platform
 import shutil
 import subprocess
 import sys
+import textwrap
 import time
 
 TOP = pathlib.Path(__file__).resolve().parent.parent
@@ -72,11 +73,26 @@ def machine():
     return f"{model}, {os.cpu_count()} processors, {platform.system()}"
 
 
+def wrapped(text):
+    """The text with its paragraphs and list items wrapped; tables, headings and indented lines stay as they are."""
+    blocks = []
+    for line in text.strip().split("\n"):
+        fixed = not line.strip() or line.startswith(("#", "|", "    "))
+        begins = fixed or line.startswith("- ") or not blocks or blocks[-1][0]
+        if begins:
+            blocks.append((fixed, line))
+        else:
+            blocks[-1] = (False, f"{blocks[-1][1]} {line.strip()}")
+    return "\n".join(line if fixed else textwrap.fill(line, 118, subsequent_indent="  " if line.startswith("- ") else "",
+                                                      break_long_words=False, break_on_hyphens=False)
+                     for fixed, line in blocks)
+
+
 def put(name, text):
     """Puts the text between the marks of this part of docs/performance.md, at its end where there are none yet."""
     begin, end = f"<!-- {name} -->", f"<!-- end of {name} -->"
     page = PAGE.read_text() if PAGE.exists() else HEAD
-    part = f"{begin}\n{text.strip()}\n{end}"
+    part = f"{begin}\n{wrapped(text)}\n{end}"
     if begin in page:
         before, rest = page.split(begin, 1)
         page = before + part + rest.split(end, 1)[1]

@@ -109,8 +109,8 @@ pub closed_fails : (f : Filter) (b : Bounds) (x : List ℤ) → is_closed f b �
 closed_fails f b x e w =
     let between = between_sums f b x w in
     elim (either (is_at_least (least_allowed f) (most_sum f b)) (is_at_most (most_allowed f) (least_sum f b)) e) [
-    | inl low ↦ ap (λ p. p && is_at_most (most_allowed f) (filter_sum f x)) (up_from (least_allowed f) (filter_sum f x) (most_sum f b) between.greatest low)
-    | inr high ↦ ap (λ p. is_at_least (least_allowed f) (filter_sum f x) && p) (down_from (most_allowed f) (least_sum f b) (filter_sum f x) between.least high) ∙ none_left (is_at_least (least_allowed f) (filter_sum f x))
+      | inl low ↦ ap (λ p. p && is_at_most (most_allowed f) (filter_sum f x)) (up_from (least_allowed f) (filter_sum f x) (most_sum f b) between.greatest low)
+      | inr high ↦ ap (λ p. is_at_least (least_allowed f) (filter_sum f x) && p) (down_from (most_allowed f) (least_sum f b) (filter_sum f x) between.least high) ∙ none_left (is_at_least (least_allowed f) (filter_sum f x))
     ]
 
 -- ---- a box of one point

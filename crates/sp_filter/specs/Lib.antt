@@ -1,2 +1,4 @@
 pub mod Filters
 pub mod Held
+pub mod InnerLowering
+pub mod Lowering

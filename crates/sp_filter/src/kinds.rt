@@ -6,8 +6,7 @@ ghost use Rattle.sp_model.specs.Models.{is_at_least, is_at_most, root_of};
 ghost use Rattle.sp_filter.specs.Filters.{filter_sum, least_allowed, most_allowed, is_passed, least_sum, most_sum, is_closed, AreKnown, AreWeightsLawful, IsNarrow, Fits, box_at, terms_width, filter_width};
 
 use crate::sums::{
-    least_distances, least_multiples, most_distances, most_multiples, multiples,
-    weighted_distances,
+    least_distances, least_multiples, most_distances, most_multiples, multiples, weighted_distances,
 };
 use crate::widths::{
     GREATEST_WIDTH, are_known, are_weighted_known, are_weights_lawful, is_roomy, room_beside_bound,

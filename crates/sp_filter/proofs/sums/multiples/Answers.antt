@@ -8,11 +8,11 @@ use Rattle.sp_filter.proofs.sums.multiples.Goals as goal
 pub overflow_add-sum : goal.overflow_add-sum
 overflow_add-sum c =
     let t = turn (multiple_at c.args.x.now) (multiple_width (box_at c.args.x.now)) c.args.terms.now c.loop-term.term-index c.term-item.result (to_z w128 c.loop-term.sum-bits) _ _
-      (multiple-le c.args.x.now c.term-item.result) c.loop-term-test.true c.term-item.is c.multiple-sum.ensures c.loop-term.invariant.whole c.loop-term.invariant.small in
+    (multiple-le c.args.x.now c.term-item.result) c.loop-term-test.true c.term-item.is c.multiple-sum.ensures c.loop-term.invariant.whole c.loop-term.invariant.small in
     t.fits
 
 pub loop-term-preserved : goal.loop-term-preserved
 loop-term-preserved c =
     let t = turn (multiple_at c.args.x.now) (multiple_width (box_at c.args.x.now)) c.args.terms.now c.loop-term.term-index c.term-item.result (to_z w128 c.loop-term.sum-bits) _ _
-      (multiple-le c.args.x.now c.term-item.result) c.loop-term-test.true c.term-item.is c.multiple-sum.ensures c.loop-term.invariant.whole c.loop-term.invariant.small in
+    (multiple-le c.args.x.now c.term-item.result) c.loop-term-test.true c.term-item.is c.multiple-sum.ensures c.loop-term.invariant.whole c.loop-term.invariant.small in
     record { whole = t.same; small = t.small }

@@ -1,7 +1,7 @@
 -- What went out and was noted when a run ends.
 use Rattle.std.specs.Prelude.{ℤ, flat_map, map, filter, count_by, slice_index_or, All, Bool, true, false, IsTrue, Result, Ok, Err}
 use Rattle.std.specs.List.{list_all, AllByRecursion}
-use Rattle.std.proofs.Common.{◌≡◌, ℕ, zero, suc, ◌<◌, ◌≤◌, List, [], ◌∷◌, ◌++◌, length, Option, None, Some, refl, sym, ap, ◌∙◌, subst, inl, inr, arith, length-append}
+use Rattle.std.proofs.Common.{◌≡◌, ℕ, zero, suc, ◌<◌, ◌≤◌, List, [], ◌∷◌, ◌++◌, length, Option, None, Some, refl, sym, ap, ◌∙◌, subst, inl, inr, arith}
 use Rattle.std.proofs.lemmas.List.{append-nil, length-map}
 use Rattle.std.proofs.lemmas.List.Elements.{All-from_recursion, filter-append, recursion_from_All}
 use Rattle.std.proofs.lemmas.List.Sums.{length-filter}
@@ -39,9 +39,9 @@ use Rattle.sp_engine.specs.Views.{Named, View, begun, point_of, read_limit}
 use Rattle.sp_shell.specs.declared.wordings.Wording.TheVariants as wording
 use Rattle.sp_shell.specs.Wording.{refusal_wording, spelling}
 use Rattle.sp_shell.specs.Replies.{done_head, listed_text, reply_text, solution_line}
-use Rattle.sp_shell.specs.Runs.{IsFileRun, IsUsage, OneRun, Outcome, RunText, RunUnsaid, status_by}
+use Rattle.sp_shell.specs.Runs.{IsFileRun, IsUsage, Outcome, RunText, RunUnsaid, status_by}
 use Rattle.sp_shell.specs.InnerEndings.{status_after, Answered, Ended, IsWhole}
-use Rattle.sp_shell.specs.InnerReplies.{AreNoted, CanPrint, IsPrintable, entry_line, note_at, printed_text, serial_line}
+use Rattle.sp_shell.specs.InnerReplies.{AreNoted, CanPrint, IsPrintable, entry_line, printed_text, serial_line}
 use Rattle.sp_shell.specs.InnerRuns.{IsRead, OwnNotes, is_own}
 
 -- a status that comes with a whole text, and what went out

@@ -73,7 +73,7 @@ fn first_wrong(alloc: Global, cases: &[Printed]) -> Result<Option<usize>, AllocE
 const REFUSED: &[u8] = b"refused 1 syntax line 1\n";
 
 /// Files that are accepted.
-static LISTS: [Printed; 14] = [
+static LISTS: [Printed; 15] = [
     (
         b"Minimize\n obj:\nBinaries\n x y z\nEnd\n",
         b"status done\noptimum 0\nsolutions 8\n0 :\n0 : z 1\n0 : y 1\n0 : y 1 z 1\n0 : x 1\n0 : x 1 z 1\n0 : x 1 y 1\n0 : x 1 y 1 z 1\n",
@@ -148,6 +148,12 @@ static LISTS: [Printed; 14] = [
     (
         b"Maximize\nobj: 007 x\nSubject To\nc1: 2 x - y - y <= 1\nBinaries\ny x\nEnd\n",
         b"status done\noptimum 7\nsolutions 1\n7 : x 1 y 1\n",
+        Status::Clean,
+    ),
+    // all 65,536 points are found, and one is listed
+    (
+        b"Maximize\nobj: a + b + c + d + e + f + g + h + i + j + k + l + m + n + o + p\nBinaries\na b c d e f g h i j k l m n o p\nEnd\n",
+        b"status done\noptimum 16\nsolutions 1\n16 : a 1 b 1 c 1 d 1 e 1 f 1 g 1 h 1 i 1 j 1 k 1 l 1 m 1 n 1 o 1 p 1\n",
         Status::Clean,
     ),
 ];
@@ -421,21 +427,36 @@ fn many_rows(alloc: Global) -> Result<Vec<u8>, AllocError> {
     Ok(file)
 }
 
-/// Whether the run over the file of 1,000 rows prints this.
-fn prints_many(alloc: Global, wanted: &[u8]) -> Result<bool, AllocError> {
-    let file = many_rows(alloc)?;
-    let mut shelf = one_file(alloc, file.as_slice(), &[])?;
+/// Whether the run over this file prints this.
+fn prints_many(alloc: Global, file: &[u8], wanted: &[u8]) -> Result<bool, AllocError> {
+    let mut shelf = one_file(alloc, file, &[])?;
     let mut sink = MemSink::new(alloc, 1_000, Vec::new(alloc));
     let (answer, _) = run_over(alloc, &[b"m.lp"], &mut shelf, &mut sink)?;
     Ok(answer == Status::Clean && sink.bytes() == wanted)
 }
 
 #[test]
-fn lists_the_optima_of_many_rows(rt: HostRuntime) -> Result<(), Fail> {
-    let wanted = b"status done\noptimum 5\nsolutions 1\n5 : x1 1 x3 1 x5 1 x7 1 x9 1\n";
-    let right = prints_many(rt.alloc(), wanted)?;
-    assert!(rt; right);
+fn reads_many_rows_and_variables(rt: HostRuntime) -> Result<(), Fail> {
+    let alloc = rt.alloc();
+    let (rows, variables) = (many_rows(alloc)?, many_variables(alloc)?);
+    let one = b"status done\noptimum 5\nsolutions 1\n5 : x1 1 x3 1 x5 1 x7 1 x9 1\n";
+    let stopped = b"status nodelimit\nnodes 199999\n";
+    let right = (
+        prints_many(alloc, rows.as_slice(), one)?,
+        prints_many(alloc, variables.as_slice(), stopped)?,
+    );
+    assert_eq!(rt; right, (true, true));
     Ok(())
+}
+
+/// A file of 2,000 variables, of which the last one is maximised.
+fn many_variables(alloc: Global) -> Result<Vec<u8>, AllocError> {
+    let mut file = Vec::from_slice(alloc, b"Maximize\nobj: x1999\nBinaries\n")?;
+    for at in 0..2_000_u32 {
+        put(&mut file, b" x", at)?;
+    }
+    file.extend_from_slice(b"\nEnd\n")?;
+    Ok(file)
 }
 
 /// A file of twelve variables and nothing else, so that all 4,096 points are optimal.

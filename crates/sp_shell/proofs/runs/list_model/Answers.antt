@@ -1,5 +1,4 @@
-use Rattle.std.proofs.Common.{◌≡◌, ◌∷◌, ◌∙◌, sym, subst}
-use Rattle.sp_base.specs.Writing.{state_of}
+use Rattle.std.proofs.Common.{◌∙◌, sym, subst}
 use Rattle.sp_engine.specs.declared.journals.Entry.TheVariants as entry
 use Rattle.sp_engine.specs.declared.journals.FetchNote.TheVariants as note
 use Rattle.sp_engine.specs.Replies.{is_refused}

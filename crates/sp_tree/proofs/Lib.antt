@@ -6,3 +6,4 @@ pub mod GrowLemmas
 pub mod KeepLemmas
 pub mod PathLemmas
 pub mod SweepLemmas
+pub mod LicenceLemmas

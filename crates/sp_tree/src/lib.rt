@@ -15,5 +15,5 @@ pub use ids::NodeId;
 pub use nodes::{Bound, Kind, Node};
 pub use refusals::SplitRefusal;
 pub use tables::Keep;
-pub use tree_laws::{extensions_last, trees_divide};
+pub use tree_laws::{extensions_last, reopening_spares_licensed, trees_divide};
 pub use trees::Tree;

@@ -1,10 +1,13 @@
 //! Laws of every tree: each is the contract of a function that does nothing.
 
-ghost use Rattle.std.specs.Prelude.{◌≤◌, ◌<◌, ℕ, length};
+ghost use Rattle.std.specs.Prelude.{◌≡◌, ◌≤◌, ◌<◌, ◌⊎◌, ℕ, ℤ, Bool, Some, None, length};
 ghost use Rattle.sp_model.specs.Boxes.{point_count, room};
 ghost use Rattle.sp_tree.specs.Laws.{IsPartition, Extends, HasMark};
 ghost use Rattle.sp_tree.specs.Splits.{box_at};
-ghost use Rattle.sp_tree.specs.Trees.{TreeOf, splits, IsGrown};
+ghost use Rattle.sp_tree.specs.Trees.{TreeOf, splits, split_of, IsGrown, IsLicensed, reopened};
+ghost use Rattle.sp_tree.specs.declared.nodes.Bound.{Bound};
+ghost use Rattle.sp_tree.specs.declared.nodes.Node.{Node};
+ghost use Rattle.sp_tree.specs.declared.nodes.Kind.TheVariants as Kind;
 
 use sp_model::{split_divides_count, split_divides_points, within_is_tested};
 
@@ -17,6 +20,16 @@ pub fn trees_divide()
     split_divides_points();
     split_divides_count();
 }
+
+/// A reopening leaves a licensed leaf as it is, leaves no leaf but open and licensed ones, and makes the bound of a bounded
+/// leaf that it opens its mark.
+pub fn reopening_spares_licensed()
+    ensures spared { (cut : ℤ) (held : ℕ → Bool) (n : Node) → IsLicensed cut held n.kind → reopened cut held n ≡ n }
+    ensures settled { (cut : ℤ) (held : ℕ → Bool) (n : Node) → split_of n.kind ≡ None
+        → ((reopened cut held n).kind ≡ Kind.Open) ⊎ IsLicensed cut held (reopened cut held n).kind }
+    ensures marked { (cut : ℤ) (held : ℕ → Bool) (n : Node) (bound : Bound) → n.kind ≡ Kind.Bounded bound
+        → ¬ IsLicensed cut held n.kind → reopened cut held n ≡ record { mark = Some bound; kind = Kind.Open } }
+{}
 
 /// What lasts from one tree to the next lasts over all later ones, and a mark on a node's path stays on it.
 pub fn extensions_last()

@@ -120,10 +120,10 @@ impl Tree {
     }
 
     /// Whether each leaf is licensed for the cut and the filters that are held.
-    pub fn is_complete(&self, cut: &i128, filters: &Filters) -> bool
-        ensures { IsTrue result ↔ IsComplete cut.now (is_held filters.now) self.now.nodes }
+    pub fn is_complete(&self, cut: i128, filters: &Filters) -> bool
+        ensures { IsTrue result ↔ IsComplete cut (is_held filters.now) self.now.nodes }
     {
-        are_all_licensed(self.nodes.as_slice(), cut, filters)
+        are_all_licensed(self.nodes.as_slice(), &cut, filters)
     }
 
     /// Gives an open leaf another kind of leaf. Its mark and all else stay.
@@ -141,15 +141,15 @@ impl Tree {
 
     /// Opens the bounded leaves up to the cut, whose bound becomes their mark, and the screened leaves whose filter isn't
     /// held. Answers how many. It takes no memory.
-    pub fn reopen(&mut self, cut: &i128, filters: &Filters) -> u32
+    pub fn reopen(&mut self, cut: i128, filters: &Filters) -> u32
         ensures boxes { self.new.boxes ≡ self.old.boxes }
-        ensures nodes { self.new.nodes ≡ map (reopened cut.now (is_held filters.now)) self.old.nodes }
+        ensures nodes { self.new.nodes ≡ map (reopened cut (is_held filters.now)) self.old.nodes }
         ensures lists { self.new.lists ≡ self.old.lists }
-        ensures count { result ≡ count_by (is_reopened cut.now (is_held filters.now)) self.old.nodes }
+        ensures count { result ≡ count_by (is_reopened cut (is_held filters.now)) self.old.nodes }
         ensures extends { Extends self.old self.new }
         ensures grown { IsGrown self.new }
     {
-        let count = reopen_all(self.nodes.as_mut_slice(), cut, filters);
+        let count = reopen_all(self.nodes.as_mut_slice(), &cut, filters);
         self.first = first_open(self.nodes.as_slice(), 0);
         count
     }
@@ -173,14 +173,14 @@ impl Tree {
         &mut self,
         id: NodeId,
         var: VarId,
-        at: &i64,
+        at: i64,
         node_limit: u32,
     ) -> Result<(NodeId, NodeId), SplitRefusal>
         requires known { id < length self.old.nodes }
         requires is_open { (node_at self.old.nodes id).kind ≡ Kind.Open }
-        requires lawful { CanSplit (box_at self.old.boxes id) var at.now }
+        requires lawful { CanSplit (box_at self.old.boxes id) var at }
         requires filled { 0 < point_count (box_at self.old.boxes id) }
-        ensures ok { IfOk result (λ made. SplitsNode self.old self.new id var at.now made.0 made.1) }
+        ensures ok { IfOk result (λ made. SplitsNode self.old self.new id var at made.0 made.1) }
         ensures limit { (result ≡ Err SplitRefusal.NodeLimit) ↔ (node_limit < length self.old.nodes + 2) }
         ensures err { OnErr result (self.new ≡ self.old) }
         ensures extends { Extends self.old self.new }
@@ -196,13 +196,13 @@ impl Tree {
         let right = NodeId::new(size + 1);
         self.nodes[id.index()].kind = Kind::Split {
             var,
-            at: *at,
+            at,
             left,
             right,
         };
         split_divides_count();
         push_two_open(&mut self.nodes);
-        push_cut(&mut self.cuts, id, var, at);
+        push_cut(&mut self.cuts, id, var, &at);
         self.first = first_open(self.nodes.as_slice(), self.first);
         Ok((left, right))
     }

@@ -14,13 +14,17 @@ pub enum Command {
     Tokens,
     /// Print the tokens of standard input.
     List,
+    /// Count the variables and rows of the MPS file on standard input.
+    Mps,
+    /// Print the draft of the MPS file on standard input.
+    MpsDraft,
 }
 
-/// Reads the words `read|print ROUNDS` or `tokens|list`.
+/// Reads the words `read|print ROUNDS` or `tokens|list|mps|mps-draft`.
 pub fn command_of<R: Env + AllocGlobal>(rt: &R) -> Result<Command> {
     let mut words = env::args(rt)?.skip(1);
     let (Some(verb), rounds, None) = (words.next(), words.next(), words.next()) else {
-        bail!("usage: reader_bench read|print ROUNDS, or tokens|list");
+        bail!("usage: reader_bench read|print ROUNDS, or tokens|list|mps|mps-draft");
     };
     match (verb.as_str(), rounds) {
         ("read", Some(rounds)) => Ok(Command::Read(
@@ -31,6 +35,8 @@ pub fn command_of<R: Env + AllocGlobal>(rt: &R) -> Result<Command> {
         )),
         ("tokens", None) => Ok(Command::Tokens),
         ("list", None) => Ok(Command::List),
-        _ => bail!("usage: reader_bench read|print ROUNDS, or tokens|list"),
+        ("mps", None) => Ok(Command::Mps),
+        ("mps-draft", None) => Ok(Command::MpsDraft),
+        _ => bail!("usage: reader_bench read|print ROUNDS, or tokens|list|mps|mps-draft"),
     }
 }

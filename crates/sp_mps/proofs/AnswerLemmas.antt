@@ -1,10 +1,12 @@
 -- A file has one answer.
-use Rattle.std.proofs.Common.{◌≡◌, ◌≢◌, ℕ, ◌+◌, ◌<◌, ◌∙◌, sym, ap, List, take, ◌⊎◌, inl, inr, arith}
+use Prim.Native.Nat.{zero, suc}
+use Rattle.std.proofs.Common.{◌≡◌, ◌≢◌, ℕ, ◌+◌, ◌<◌, ◌≤◌, ◌∙◌, refl, sym, ap, List, length, take, max, below_more, ◌⊎◌, inl, inr, arith}
 use Rattle.std.specs.Prelude.{Result, Ok, Err}
 use Rattle.sp_draft.specs.declared.drafts.Draft.{Draft}
 use Rattle.sp_draft.specs.declared.read_refusals.ReadRefusal.{ReadRefusal}
 use Rattle.sp_draft.specs.declared.read_refusals.ReadRefusal.TheVariants.{NoMemory}
 use Rattle.sp_mps_words.specs.declared.faults.FaultKind.{FaultKind}
+use Rattle.sp_mps_words.specs.declared.faults.FaultKind.TheVariants.{Syntax}
 use Rattle.sp_mps_words.specs.Lines.{Line}
 use Rattle.sp_mps.specs.Drafts.{draft_of}
 use Rattle.sp_mps.specs.Facts.{facts}
@@ -77,3 +79,46 @@ only_refused ls r d (inr h) g = absurd (apart ls d r g h)
 pub first_refused : (ls : List Line) (q r : ReadRefusal) → (q ≡ NoMemory) ⊎ IsRefused ls q → IsRefused ls r → (let x : Result Draft ReadRefusal = Err q in (x ≡ Err r) ⊎ (x ≡ Err NoMemory))
 first_refused ls q r (inl e) g = inr (ap Err e)
 first_refused ls q r (inr h) g = inl (ap Err (one_refusal ls q r h g))
+
+-- the file has a draft, or is refused for something
+abbrev pub IsAnswered : List Line → Type 0
+IsAnswered ls = ((d : Draft) × IsDraft ls d) ⊎ ((r : ReadRefusal) × IsRefused ls r)
+
+-- where the file goes on behind each line before the place, the verdict there answers it, or it goes on
+decide : (ls : List Line) (n : ℕ) (v : Verdict) → n < length ls → verdict ls n ≡ v → ((i : ℕ) → i < n → verdict ls i ≡ Goes) → ((i : ℕ) → i < suc n → verdict ls i ≡ Goes) ⊎ IsAnswered ls
+decide ls n Goes h e goes =
+    let more : (i : ℕ) → i < n + 1 → verdict ls i ≡ Goes = below_more _ _ goes e in
+    inl (λ i lt. more i (omega (arith, lt)))
+decide ls n Ends h e goes = inr (inl (draft_of (facts (take (n + 1) ls)), record { place = n; first = record { within = h; before = goes; here = e }; means = refl }))
+decide ls n (Fails kind) h e goes = inr (inr (
+  refusal_of kind (n + 1),
+  record {
+    kind = kind;
+    line = n + 1;
+    fault = inl (record { place = n; first = record { within = h; before = goes; here = e }; line_is = refl });
+    is = refl;
+  },
+))
+
+seek : (ls : List Line) (n : ℕ) → n ≤ length ls → ((i : ℕ) → i < n → verdict ls i ≡ Goes) ⊎ IsAnswered ls
+seek ls zero h = inl (λ i lt. absurd (omega (arith, lt)))
+seek ls (suc n) h = on (seek ls n (omega (arith, h)))
+  where
+    on : ((i : ℕ) → i < n → verdict ls i ≡ Goes) ⊎ IsAnswered ls → ((i : ℕ) → i < suc n → verdict ls i ≡ Goes) ⊎ IsAnswered ls
+    on (inl goes) = decide ls n (verdict ls n) (omega (arith, h)) refl goes
+    on (inr a) = inr a
+
+pub some_answer : (ls : List Line) → IsAnswered ls
+some_answer ls = by (seek ls (length ls) (omega arith))
+  where
+    by : ((i : ℕ) → i < length ls → verdict ls i ≡ Goes) ⊎ IsAnswered ls → IsAnswered ls
+    by (inl goes) = inr (
+      refusal_of Syntax (max 1 (length ls)),
+      record {
+        kind = Syntax;
+        line = max 1 (length ls);
+        fault = inr (record { all = goes; kind_is = refl; line_is = refl });
+        is = refl;
+      },
+    )
+    by (inr a) = a

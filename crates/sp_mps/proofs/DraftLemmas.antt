@@ -10,12 +10,15 @@ use Rattle.sp_decimal.specs.declared.numerals.Numeral.{Numeral}
 use Rattle.sp_draft.specs.Drafts.{WrittenTerm}
 use Rattle.sp_mps_words.specs.declared.kinds.RowKind.TheVariants.{Free}
 use Rattle.sp_mps.specs.Drafts.{draft_of, draft_rows, draft_indicator, is_plain, is_maximised, cost_of, constant_of, constants_of, row_terms, last_side, last_range, bounds_of, is_bounded, with_line, first_var, plain_var, draft_var, draft_row, sides_for, side_or_zero}
-use Rattle.sp_mps.specs.declared.bounds.ColumnBound.{ColumnBound}
+use Rattle.sp_mps_sections.specs.declared.bounds.ColumnBound.{ColumnBound}
 use Rattle.sp_mps.specs.declared.reader.Reader.{Reader}
 use Rattle.sp_mps.specs.inner.Tables.{term_table, side_table, range_table, bounded_table, var_table, first_at, row_of, indicator_of, cost_at, constants_at}
 use Rattle.sp_mps.specs.inner.Reads.{IsKnown}
-use Rattle.sp_mps.specs.declared.indicators.IndicatorRow.{IndicatorRow}
+use Rattle.sp_mps.specs.inner.Parts.{IsMadeOf, AreRowParts, IsJoined}
+use Rattle.sp_mps.specs.declared.drafting.RowParts.{RowParts}
+use Rattle.sp_mps_sections.specs.declared.indicators.IndicatorRow.{IndicatorRow}
 use Rattle.sp_draft.specs.declared.drafts.Draft.{Draft}
+use Rattle.sp_draft.specs.declared.drafts.DraftVar.{DraftVar}
 use Rattle.sp_mps.proofs.RowLemmas.{same_on, range_below}
 
 -- two functions that agree below n
@@ -56,17 +59,6 @@ row_made f n row lt = λ i. record {
   sides = sides_for (get_or f.rows.kinds row Free) (side_or_zero (side_at n f row lt i)) (range_at n f row lt i);
 }
 
--- the parts of a draft as they are made of what is gathered by row
-pub record IsMade (f : Reader) (terms : List (List WrittenTerm)) (sides : List (Option Numeral)) (ranges : List (Option DecimalFraction)) (d : Draft) : Type 0 where
-  pub maximize : d.maximize ≡ unwrap_or f.direction false
-  pub names : d.names ≡ f.columns.names
-  pub vars : d.vars ≡ map (draft_var f) (range_with_len 0 (length f.columns.names))
-  pub cost : d.cost ≡ cost_at terms f.rows.objective
-  pub constants : d.constants ≡ constants_at sides f.rows.objective
-  pub rows : d.rows ≡ map (row_of f.rows.kinds terms sides ranges) (filter (is_plain f) (range_with_len 0 (length f.rows.names)))
-  pub indicators : d.indicators ≡ map (indicator_of f.rows.kinds terms sides ranges) f.indicators.rows
-  pub sos : d.sos ≡ []
-
 maximised : (o : Option Bool) → unwrap_or o false ≡ is_maximised o
 maximised None = refl
 maximised (Some b) = refl
@@ -94,21 +86,25 @@ indicators_made f n h =
     of_row i e = λ j. record { var = i.column; on = i.on; row = e j }
 
 -- they are those of the draft
-pub draft_made : (f : Reader) (terms : List (List WrittenTerm)) (sides : List (Option Numeral)) (ranges : List (Option DecimalFraction)) (d : Draft) → IsKnown f → terms ≡ term_table (length f.rows.names) f.columns.terms → sides ≡ side_table (length f.rows.names) f.sides.sides → ranges ≡ range_table (length f.rows.names) f.ranges.ranges → IsMade f terms sides ranges d → d ≡ draft_of f
-unfolding draft_of
-draft_made f terms sides ranges d k t s r m =
+pub parts_made : (f : Reader) (terms : List (List WrittenTerm)) (sides : List (Option Numeral)) (ranges : List (Option DecimalFraction)) (p : RowParts) → IsKnown f → terms ≡ term_table (length f.rows.names) f.columns.terms → sides ≡ side_table (length f.rows.names) f.sides.sides → ranges ≡ range_table (length f.rows.names) f.ranges.ranges → IsMadeOf f terms sides ranges p → AreRowParts f p
+parts_made f terms sides ranges p k t s r m =
     let n = length f.rows.names in
-    let cost : d.cost ≡ cost_of f f.rows.objective = m.cost ∙ (ap (λ x. cost_at x f.rows.objective) t ∙ cost_made f n f.rows.objective k.objective) in
-    let constants : d.constants ≡ constants_of f f.rows.objective = m.constants ∙ (ap (λ x. constants_at x f.rows.objective) s ∙ constants_made f n f.rows.objective k.objective) in
-    let rows : d.rows ≡ draft_rows f = m.rows ∙ (λ i. map (row_of f.rows.kinds (t i) (s i) (r i)) (filter (is_plain f) (range_with_len 0 n))) ∙ rows_made f n refl in
-    let indicators : d.indicators ≡ map (draft_indicator f) f.indicators.rows = m.indicators ∙ ((λ i. map (indicator_of f.rows.kinds (t i) (s i) (r i)) f.indicators.rows) ∙ indicators_made f n (λ j e lt. (k.indicators j e lt).row)) in
-    λ i. record {
-      maximize = (m.maximize ∙ maximised f.direction) i;
-      names = m.names i;
-      vars = m.vars i;
-      cost = cost i;
-      constants = constants i;
-      rows = rows i;
-      indicators = indicators i;
-      sos = m.sos i;
+    record {
+      cost = m.cost ∙ (ap (λ x. cost_at x f.rows.objective) t ∙ cost_made f n f.rows.objective k.objective);
+      constants = m.constants ∙ (ap (λ x. constants_at x f.rows.objective) s ∙ constants_made f n f.rows.objective k.objective);
+      rows = m.rows ∙ (λ i. map (row_of f.rows.kinds (t i) (s i) (r i)) (filter (is_plain f) (range_with_len 0 n))) ∙ rows_made f n refl;
+      indicators = m.indicators ∙ ((λ i. map (indicator_of f.rows.kinds (t i) (s i) (r i)) f.indicators.rows) ∙ indicators_made f n (λ j e lt. (k.indicators j e lt).row));
     }
+
+pub draft_made : (f : Reader) (vars : List DraftVar) (p : RowParts) (d : Draft) → vars ≡ map (draft_var f) (range_with_len 0 (length f.columns.names)) → AreRowParts f p → IsJoined f vars p d → d ≡ draft_of f
+unfolding draft_of
+draft_made f vars p d v a j = λ i. record {
+  maximize = (j.maximize ∙ maximised f.direction) i;
+  names = j.names i;
+  vars = (j.vars_are ∙ v) i;
+  cost = (j.cost ∙ a.cost) i;
+  constants = (j.constants ∙ a.constants) i;
+  rows = (j.rows ∙ a.rows) i;
+  indicators = (j.indicators ∙ a.indicators) i;
+  sos = j.sos i;
+}

@@ -10,17 +10,18 @@ use Rattle.sp_mps_words.specs.declared.line_kinds.LineKind.TheVariants.{Ignored,
 use Rattle.sp_mps_words.specs.Kinds.{direction_of}
 use Rattle.sp_mps_words.specs.Lines.{Line}
 use Rattle.sp_mps_words.specs.Words.{Word, word_at}
-use Rattle.sp_mps.specs.Fronts.{each, first_of, last_of, listed, heads, heads_in, section_behind, is_data_of}
-use Rattle.sp_mps.specs.Order.{direction, directions_in}
+use Rattle.sp_mps_sections.specs.Fronts.{each, first_of, last_of, listed, heads, heads_in, section_behind, is_data_of}
+use Rattle.sp_mps_sections.specs.Order.{direction, directions_in}
 use Rattle.sp_mps.specs.Facts.{facts}
-use Rattle.sp_mps.specs.Rows.{row_list, row_names, row_kinds, objective_row}
-use Rattle.sp_mps.specs.Columns.{column_list, column_names, is_open, integers, terms}
-use Rattle.sp_mps.specs.Sides.{side_list, side_set, sides, range_list, range_set, ranges}
-use Rattle.sp_mps.specs.Bounds.{bound_list, bound_set, bounds}
-use Rattle.sp_mps.specs.Indicators.{indicator_list, indicator_names, indicator_rows}
+use Rattle.sp_mps_sections.specs.Rows.{row_list, row_names, row_kinds, objective_row}
+use Rattle.sp_mps_sections.specs.Columns.{column_list, column_names, is_open, integers, terms}
+use Rattle.sp_mps_sections.specs.Sides.{side_list, side_set, sides, range_list, range_set, ranges}
+use Rattle.sp_mps_sections.specs.Bounds.{bound_list, bound_set, bounds}
+use Rattle.sp_mps_sections.specs.Indicators.{indicator_list, indicator_names, indicator_rows}
 use Rattle.sp_mps.specs.Checks.{check, check_words, check_data}
 use Rattle.sp_mps.specs.declared.reader.Reader.{Reader}
-use Rattle.sp_mps.specs.inner.Steps.{or_else, unless, start, with_words, with_data, step}
+use Rattle.sp_mps_sections.specs.Answers.{or_else, unless}
+use Rattle.sp_mps.specs.inner.Steps.{start, with_words, with_data, step}
 use Rattle.sp_mps.proofs.FrontLemmas.{one_more, first_of-append, or_else-none}
 use Rattle.sp_mps.proofs.SectionLemmas.{rows_added, rows_more, rows_same, rows_step, columns_added, columns_more, columns_same, columns_step, sides_added, sides_more, sides_same, ranges_added, ranges_more, ranges_same, bounds_added, bounds_more, bounds_same, indicators_added, indicators_more, indicators_same}
 

@@ -6,8 +6,8 @@ use Rattle.std.proofs.lemmas.List.Sums.{fold-append}
 use Rattle.sp_mps_words.specs.declared.heads.Head.{Head}
 use Rattle.sp_mps_words.specs.Lines.{Line}
 use Rattle.sp_mps_words.specs.Words.{Word}
-use Rattle.sp_mps.specs.Fronts.{each, first_of, section_behind, is_data_of, in_section}
-use Rattle.sp_mps.specs.inner.Steps.{or_else}
+use Rattle.sp_mps_sections.specs.Fronts.{each, first_of, section_behind, is_data_of, in_section}
+use Rattle.sp_mps_sections.specs.Answers.{or_else}
 
 -- what one more line gives
 pub one_more : {X : Type 0} (f : List Line → Line → List X) (before ls : List Line) (l : Line) → each f before (ls ++ l ∷ []) ≡ each f before ls ++ f (before ++ ls) l

@@ -8,12 +8,12 @@ use Rattle.sp_decimal.specs.DecimalFraction.{DecimalFraction}
 use Rattle.sp_decimal.specs.declared.numerals.Numeral.{Numeral}
 use Rattle.sp_draft.specs.Drafts.{WrittenTerm}
 use Rattle.sp_draft.specs.declared.drafts.DraftVar.{DraftVar}
-use Rattle.sp_mps.specs.Fronts.{last_of}
+use Rattle.sp_mps_sections.specs.Fronts.{last_of}
 use Rattle.sp_mps.specs.Drafts.{written, row_terms, last_side, last_range, bounds_of, is_bounded, with_line}
-use Rattle.sp_mps.specs.declared.bounds.ColumnBound.{ColumnBound}
-use Rattle.sp_mps.specs.declared.columns.Term.{Term}
-use Rattle.sp_mps.specs.declared.pairs.RowSide.{RowSide}
-use Rattle.sp_mps.specs.declared.pairs.RowValue.{RowValue}
+use Rattle.sp_mps_sections.specs.declared.bounds.ColumnBound.{ColumnBound}
+use Rattle.sp_mps_sections.specs.declared.columns.Term.{Term}
+use Rattle.sp_mps_sections.specs.declared.pairs.RowSide.{RowSide}
+use Rattle.sp_mps_sections.specs.declared.pairs.RowValue.{RowValue}
 use Rattle.sp_mps.specs.inner.Tables.{term_table, side_table, range_table, bounded_table, var_table}
 use Rattle.sp_mps.proofs.TableLemmas.{next}
 

@@ -1,13 +1,27 @@
 -- How lists of names grow.
-use Rattle.std.proofs.Common.{◌≡◌, ℕ, ◌+◌, ◌<◌, ◌≤◌, Bool, true, false, List, [], ◌∷◌, ◌++◌, length, refl, arith}
+use Rattle.std.proofs.Common.{◌≡◌, ℕ, ◌+◌, ◌<◌, ◌≤◌, Bool, true, false, ◌||◌, List, [], ◌∷◌, ◌++◌, length, refl, arith}
 use Rattle.std.specs.Prelude.{Some, None, if◌then◌else◌, cond, not}
 use Rattle.std.specs.Str.{bytes_eq}
 use Rattle.std.proofs.lemmas.List.{length-append}
 use Rattle.sp_draft.specs.Names.{Name, is_among, with_name, place_of}
 use Rattle.sp_mps_words.specs.declared.faults.FaultKind.TheVariants.{UnknownName, DuplicateName}
-use Rattle.sp_mps.specs.Faults.{fault_if, name_fault, declared_fault}
-use Rattle.sp_mps.proofs.NameLemmas.{place_within}
+use Rattle.sp_mps_sections.specs.Faults.{fault_if, name_fault, declared_fault}
 use Rattle.sp_mps.proofs.SectionLemmas.{behind}
+
+among_step : (b c : Bool) → (b || c) ≡ true → b ≡ false → c ≡ true
+among_step true c e f = cc
+among_step false c e f = e
+
+within_step : (b : Bool) (p n : ℕ) → (b ≡ false → p < n) → cond (not b) (1 + p) 0 < 1 + n
+within_step true p n h = omega arith
+within_step false p n h = let l : p < n = h refl in omega (arith, l)
+
+-- the place of a name that is there lies among the names
+place_within : (names : List Name) (name : Name) → is_among names name ≡ true → place_of names name < length names
+place_within [] name e = cc
+place_within (x ∷ xs) name e =
+    let l = within_step (bytes_eq name x) (place_of xs name) (length xs) (λ f. place_within xs name (among_step (bytes_eq name x) (is_among xs name) e f)) in
+    omega (arith, l)
 
 pub grows : (names : List Name) (name : Name) → length names ≤ length (with_name names name)
 grows names name = by (is_among names name)

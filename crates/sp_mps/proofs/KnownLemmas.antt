@@ -14,20 +14,22 @@ use Rattle.sp_mps_words.specs.Marks.{is_marker, mark_of, is_if}
 use Rattle.sp_mps_words.specs.Values.{flag_of}
 use Rattle.sp_mps_words.specs.Lines.{Line}
 use Rattle.sp_mps_words.specs.Words.{Word, word_at}
-use Rattle.sp_mps.specs.Fronts.{first_of, last_of}
-use Rattle.sp_mps.specs.Faults.{or_then, fault_if, known_fault, name_fault, declared_fault, value_fault}
-use Rattle.sp_mps.specs.Rows.{is_free, is_free_at, check_row}
-use Rattle.sp_mps.specs.Columns.{term_of}
-use Rattle.sp_mps.specs.Pairs.{row_values}
-use Rattle.sp_mps.specs.Indicators.{indicator_row, row_fault, indicator_fault, check_indicator}
+use Rattle.sp_mps_sections.specs.Fronts.{first_of, last_of}
+use Rattle.sp_mps_sections.specs.Faults.{or_then, fault_if, known_fault, name_fault, declared_fault, value_fault}
+use Rattle.sp_mps_sections.specs.Rows.{is_free, is_free_at, check_row}
+use Rattle.sp_mps_sections.specs.Columns.{term_of}
+use Rattle.sp_mps_sections.specs.Pairs.{row_values}
+use Rattle.sp_mps_sections.specs.Indicators.{indicator_row, row_fault, indicator_fault, check_indicator}
 use Rattle.sp_mps.specs.Checks.{check_words, check_data}
-use Rattle.sp_mps.specs.declared.columns.Term.{Term}
-use Rattle.sp_mps.specs.declared.indicators.IndicatorRow.{IndicatorRow}
-use Rattle.sp_mps.specs.declared.pairs.RowValue.{RowValue}
+use Rattle.sp_mps_sections.specs.declared.columns.Term.{Term}
+use Rattle.sp_mps_sections.specs.declared.indicators.IndicatorRow.{IndicatorRow}
+use Rattle.sp_mps_sections.specs.declared.pairs.RowValue.{RowValue}
 use Rattle.sp_mps.specs.declared.reader.Reader.{Reader}
 use Rattle.sp_mps.specs.inner.Reads.{IsKnown, IsKnownRow}
 use Rattle.sp_mps.specs.inner.Room.{HasRoom}
-use Rattle.sp_mps.specs.inner.Steps.{or_else, with_row, with_mark, with_column, with_data, with_words, step}
+use Rattle.sp_mps_sections.specs.Answers.{or_else}
+use Rattle.sp_mps_sections.specs.Additions.{with_row, with_mark, with_column}
+use Rattle.sp_mps.specs.inner.Steps.{with_data, with_words, step}
 use Rattle.sp_mps.proofs.FactLemmas.{unless_ok}
 use Rattle.sp_mps.proofs.GrowthLemmas.{grows, grows_little, place_added, grows_by_new, declared_within}
 use Rattle.sp_mps.proofs.SectionLemmas.{behind, before}

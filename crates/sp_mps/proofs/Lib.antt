@@ -1,4 +1,3 @@
-pub mod NameLemmas
 pub mod StepLemmas
 pub mod FrontLemmas
 pub mod SectionLemmas

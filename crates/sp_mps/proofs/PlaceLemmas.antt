@@ -10,11 +10,12 @@ use Rattle.sp_mps_words.specs.Lines.{Line, line_of, lines_of}
 use Rattle.sp_mps.specs.Checks.{check}
 use Rattle.sp_mps.specs.Facts.{facts}
 use Rattle.sp_mps.specs.Verdicts.{ends, Goes, verdict_from, no_line, verdict, IsFault, IsRefused}
-use Rattle.sp_mps.specs.declared.line_faults.LineFault.{LineFault}
-use Rattle.sp_mps.specs.declared.line_faults.LineFault.TheVariants.{Refused, NoMemory}
+use Rattle.sp_mps_sections.specs.declared.line_faults.LineFault.{LineFault}
+use Rattle.sp_mps_sections.specs.declared.line_faults.LineFault.TheVariants.{Refused, NoMemory}
 use Rattle.sp_mps.specs.declared.reader.Reader.{Reader}
 use Rattle.sp_mps.specs.inner.Reads.{IsKnown, IsRead, Says, refusal_at}
-use Rattle.sp_mps.specs.inner.Steps.{step, start, Gives}
+use Rattle.sp_mps_sections.specs.Answers.{Gives}
+use Rattle.sp_mps.specs.inner.Steps.{step, start}
 use Rattle.sp_mps.proofs.FactLemmas.{no_facts, taken, refused}
 use Rattle.sp_mps.proofs.KnownLemmas.{taken_known, AreFew, taken_few}
 

@@ -10,22 +10,23 @@ use Rattle.sp_mps_words.specs.Kinds.{row_kind_of, bound_kind_of}
 use Rattle.sp_mps_words.specs.Marks.{is_marker, mark_of}
 use Rattle.sp_mps_words.specs.Lines.{Line}
 use Rattle.sp_mps_words.specs.Words.{Word, word_at}
-use Rattle.sp_mps.specs.Fronts.{first_of, listed, section_behind, is_data_of}
-use Rattle.sp_mps.specs.Faults.{or_then, fault_if, known_fault, name_fault}
-use Rattle.sp_mps.specs.Rows.{row_names, row_kinds, objective_row, row_list, free_place, check_row}
-use Rattle.sp_mps.specs.Columns.{column_in, mark_in, integer_in, terms_in, last_mark, column_names, is_open, integers, terms, column_list, new_integer, term_of}
-use Rattle.sp_mps.specs.Pairs.{row_values}
-use Rattle.sp_mps.specs.Sides.{set_name, side_set, sides_on, sides, side_list, range_set, ranges_on, ranges, range_list}
-use Rattle.sp_mps.specs.Bounds.{set_on, bound_set, bounds_on, bounds, bound_list}
-use Rattle.sp_mps.specs.Indicators.{indicator_names, indicator_row, indicator_rows, indicator_list}
-use Rattle.sp_mps.specs.declared.rows.RowList.{RowList}
-use Rattle.sp_mps.specs.declared.columns.ColumnList.{ColumnList}
-use Rattle.sp_mps.specs.declared.columns.Term.{Term}
-use Rattle.sp_mps.specs.declared.sides.SideList.{SideList}
-use Rattle.sp_mps.specs.declared.sides.RangeList.{RangeList}
-use Rattle.sp_mps.specs.declared.bounds.BoundList.{BoundList}
-use Rattle.sp_mps.specs.declared.indicators.IndicatorList.{IndicatorList}
-use Rattle.sp_mps.specs.inner.Steps.{or_else, with_row, with_mark, with_column_line}
+use Rattle.sp_mps_sections.specs.Fronts.{first_of, listed, section_behind, is_data_of}
+use Rattle.sp_mps_sections.specs.Faults.{or_then, fault_if, known_fault, name_fault}
+use Rattle.sp_mps_sections.specs.Rows.{row_names, row_kinds, objective_row, row_list, free_place, check_row}
+use Rattle.sp_mps_sections.specs.Columns.{column_in, mark_in, integer_in, terms_in, last_mark, column_names, is_open, integers, terms, column_list, new_integer, term_of}
+use Rattle.sp_mps_sections.specs.Pairs.{row_values}
+use Rattle.sp_mps_sections.specs.Sides.{set_name, side_set, sides_on, sides, side_list, range_set, ranges_on, ranges, range_list}
+use Rattle.sp_mps_sections.specs.Bounds.{set_on, bound_set, bounds_on, bounds, bound_list}
+use Rattle.sp_mps_sections.specs.Indicators.{indicator_names, indicator_row, indicator_rows, indicator_list}
+use Rattle.sp_mps_sections.specs.declared.rows.RowList.{RowList}
+use Rattle.sp_mps_sections.specs.declared.columns.ColumnList.{ColumnList}
+use Rattle.sp_mps_sections.specs.declared.columns.Term.{Term}
+use Rattle.sp_mps_sections.specs.declared.sides.SideList.{SideList}
+use Rattle.sp_mps_sections.specs.declared.sides.RangeList.{RangeList}
+use Rattle.sp_mps_sections.specs.declared.bounds.BoundList.{BoundList}
+use Rattle.sp_mps_sections.specs.declared.indicators.IndicatorList.{IndicatorList}
+use Rattle.sp_mps_sections.specs.Answers.{or_else}
+use Rattle.sp_mps_sections.specs.Additions.{with_row, with_mark, with_column_line}
 use Rattle.sp_mps.proofs.FrontLemmas.{one_more_in, first_more_in, fold_more_in, or_else-none}
 
 -- ROWS

@@ -2,9 +2,9 @@
 use Rattle.std.proofs.Common.{◌≡◌, ap}
 use Rattle.std.specs.Prelude.{Option, Some, None, Result, Ok, Err}
 use Rattle.sp_mps_words.specs.declared.faults.FaultKind.{FaultKind}
-use Rattle.sp_mps.specs.declared.line_faults.LineFault.{LineFault}
-use Rattle.sp_mps.specs.declared.line_faults.LineFault.TheVariants.{Refused, NoMemory}
-use Rattle.sp_mps.specs.inner.Steps.{unless, Gives}
+use Rattle.sp_mps_sections.specs.declared.line_faults.LineFault.{LineFault}
+use Rattle.sp_mps_sections.specs.declared.line_faults.LineFault.TheVariants.{Refused, NoMemory}
+use Rattle.sp_mps_sections.specs.Answers.{unless, Gives}
 
 ok_inside : {S : Type 0} (a b : S) → (let x : Result S FaultKind = Ok a in x ≡ Ok b) → a ≡ b
 ok_inside a b e = cc

@@ -7,7 +7,7 @@ use Rattle.std.proofs.lemmas.List.FromFn.{length-map-range_with_len}
 use Rattle.sp_draft.specs.Drafts.{WrittenTerm, AreKnown, IsKnownIndicator, IsWellFormed}
 use Rattle.sp_draft.specs.declared.drafts.DraftRow.{DraftRow}
 use Rattle.sp_mps.specs.Drafts.{written, row_terms, draft_var, draft_row, is_plain, draft_indicator, cost_of, draft_of}
-use Rattle.sp_mps.specs.declared.columns.Term.{Term}
+use Rattle.sp_mps_sections.specs.declared.columns.Term.{Term}
 use Rattle.sp_mps.specs.declared.reader.Reader.{Reader}
 use Rattle.sp_mps.specs.inner.Reads.{IsKnown}
 

@@ -19,14 +19,14 @@ use Rattle.sp_mps_words.specs.declared.kinds.BoundKind.TheVariants.{Upper, Lower
 use Rattle.sp_mps_words.specs.declared.kinds.RowKind.{RowKind}
 use Rattle.sp_mps_words.specs.declared.kinds.RowKind.TheVariants.{Free, Less, Greater, Equal}
 use Rattle.sp_mps_words.specs.Words.{word_at}
-use Rattle.sp_mps.specs.Fronts.{last_of}
-use Rattle.sp_mps.specs.Pairs.{zero}
-use Rattle.sp_mps.specs.Rows.{is_free_at}
-use Rattle.sp_mps.specs.declared.bounds.ColumnBound.{ColumnBound}
-use Rattle.sp_mps.specs.declared.columns.Term.{Term}
-use Rattle.sp_mps.specs.declared.indicators.IndicatorRow.{IndicatorRow}
-use Rattle.sp_mps.specs.declared.pairs.RowSide.{RowSide}
-use Rattle.sp_mps.specs.declared.pairs.RowValue.{RowValue}
+use Rattle.sp_mps_sections.specs.Fronts.{last_of}
+use Rattle.sp_mps_sections.specs.Pairs.{zero}
+use Rattle.sp_mps_sections.specs.Rows.{is_free_at}
+use Rattle.sp_mps_sections.specs.declared.bounds.ColumnBound.{ColumnBound}
+use Rattle.sp_mps_sections.specs.declared.columns.Term.{Term}
+use Rattle.sp_mps_sections.specs.declared.indicators.IndicatorRow.{IndicatorRow}
+use Rattle.sp_mps_sections.specs.declared.pairs.RowSide.{RowSide}
+use Rattle.sp_mps_sections.specs.declared.pairs.RowValue.{RowValue}
 use Rattle.sp_mps.specs.declared.reader.Reader.{Reader}
 
 abbrev pub written : Term → WrittenTerm
@@ -63,7 +63,8 @@ sides_for Equal rhs (Some range) = Ranged sense.Equal rhs range
 abbrev pub draft_row : Reader → ℕ → DraftRow
 draft_row f row = record {
   terms = row_terms f.columns.terms row;
-  sides = sides_for (slice_index_or f.rows.kinds row Free) (side_or_zero (last_side f.sides.sides row)) (last_range f.ranges.ranges row);
+  sides = sides_for (slice_index_or f.rows.kinds row Free) (side_or_zero (last_side f.sides.sides row))
+      (last_range f.ranges.ranges row);
 }
 
 -- the row at the place is one of the draft: its kind isn't N, and it is no indicator
@@ -115,7 +116,8 @@ with_bound SemiUpper value v = record v { upper = Some value; semi = true }
 
 -- a column with nothing stated but whether it is integer
 abbrev pub plain_var : Bool → DraftVar
-plain_var is_integer = record { kind = if is_integer then Integer else Continuous; lower = None; upper = None; semi = false }
+plain_var is_integer =
+    record { kind = if is_integer then Integer else Continuous; lower = None; upper = None; semi = false }
 
 -- a column before its bounds; one that is integer by markers and has none lies from 0 to 1
 abbrev pub first_var : Bool → Bool → DraftVar
@@ -135,7 +137,10 @@ unfoldable pub bounds_of : List ColumnBound → ℕ → List ColumnBound
 bounds_of bounds column = filter (λ (b : ColumnBound). b.column == column) bounds
 
 abbrev pub draft_var : Reader → ℕ → DraftVar
-draft_var f column = fold with_line (first_var (slice_index_or f.columns.integers column false) (is_bounded (bounds_of f.bounds.bounds column))) (bounds_of f.bounds.bounds column)
+draft_var f column =
+    fold with_line
+    (first_var (slice_index_or f.columns.integers column false) (is_bounded (bounds_of f.bounds.bounds column)))
+    (bounds_of f.bounds.bounds column)
 
 abbrev pub is_maximised : Option Bool → Bool
 is_maximised None = false

@@ -1,13 +1,13 @@
 -- All that a front of the lines says.
 use Rattle.std.specs.Prelude.{List}
 use Rattle.sp_mps_words.specs.Lines.{Line}
-use Rattle.sp_mps.specs.Fronts.{heads}
-use Rattle.sp_mps.specs.Order.{direction}
-use Rattle.sp_mps.specs.Rows.{row_list}
-use Rattle.sp_mps.specs.Columns.{column_list}
-use Rattle.sp_mps.specs.Sides.{side_list, range_list}
-use Rattle.sp_mps.specs.Bounds.{bound_list}
-use Rattle.sp_mps.specs.Indicators.{indicator_list}
+use Rattle.sp_mps_sections.specs.Fronts.{heads}
+use Rattle.sp_mps_sections.specs.Order.{direction}
+use Rattle.sp_mps_sections.specs.Rows.{row_list}
+use Rattle.sp_mps_sections.specs.Columns.{column_list}
+use Rattle.sp_mps_sections.specs.Sides.{side_list, range_list}
+use Rattle.sp_mps_sections.specs.Bounds.{bound_list}
+use Rattle.sp_mps_sections.specs.Indicators.{indicator_list}
 use Rattle.sp_mps.specs.declared.reader.Reader.{Reader}
 
 unfoldable pub facts : List Line → Reader

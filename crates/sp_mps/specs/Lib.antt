@@ -1,12 +1,3 @@
-pub mod Fronts
-pub mod Faults
-pub mod Order
-pub mod Rows
-pub mod Pairs
-pub mod Columns
-pub mod Sides
-pub mod Bounds
-pub mod Indicators
 pub mod Facts
 pub mod Checks
 pub mod Drafts

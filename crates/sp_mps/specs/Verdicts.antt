@@ -43,7 +43,8 @@ no_line = record { kind = Ignored; words = [] }
 
 -- the verdict on the line at the place, by the lines before it
 unfoldable pub verdict : List Line → ℕ → Verdict
-verdict lines n = verdict_from (check (take n lines) (slice_index_or lines n no_line)) (ends (slice_index_or lines n no_line))
+verdict lines n =
+    verdict_from (check (take n lines) (slice_index_or lines n no_line)) (ends (slice_index_or lines n no_line))
 
 -- the place is the first one where the file doesn't go on
 pub record IsFirst (lines : List Line) (n : ℕ) (v : Verdict) : Type 0 where

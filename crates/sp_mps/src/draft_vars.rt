@@ -4,10 +4,10 @@ ghost use Rattle.std.specs.List.{range_with_len};
 ghost use Rattle.sp_mps.specs.Drafts.{below, above, whole, first_var, plain_var, with_bound, with_line, draft_var};
 ghost use Rattle.sp_mps.specs.inner.Tables.{bounded_table, var_table, first_at};
 
-use crate::bounds::ColumnBound;
 use crate::reader::Reader;
 use sp_decimal::{Decimal, Numeral};
 use sp_draft::{DraftVar, VarKind};
+use sp_mps_sections::ColumnBound;
 use sp_mps_words::BoundKind;
 use std::alloc::{AllocError, Global};
 
@@ -175,7 +175,8 @@ fn first_vars(
 
 /// Adds the bound to its column, if there is one.
 fn add_bound(table: &mut Vec<DraftVar>, bound: ColumnBound)
-    ensures { table.new.items ≡ slice_set table.old.items bound.column (with_line (slice_index_or table.old.items bound.column (plain_var false)) bound) }
+    ensures { table.new.items ≡ slice_set table.old.items bound.column (with_line (slice_index_or table.old.items
+        bound.column (plain_var false)) bound) }
 {
     let place = bound.column.index();
     if place < table.len() {
@@ -202,7 +203,8 @@ fn var_table(
 
 /// The variables that the lines make.
 pub(crate) fn draft_vars(alloc: Global, reader: &Reader) -> Result<Vec<DraftVar>, AllocError>
-    ensures { IfOk result (λ vars. vars.items ≡ map (draft_var reader.now) (range_with_len 0 (length reader.now.columns.names))) }
+    ensures { IfOk result (λ vars. vars.items ≡ map (draft_var reader.now) (range_with_len 0 (length
+        reader.now.columns.names))) }
 {
     let count = reader.columns.names.len();
     let bounds = reader.bounds.bounds.as_slice();

@@ -2,19 +2,19 @@
 ghost use Rattle.std.specs.Prelude.{◌≡◌, ◌<◌, ◌≤◌, ◌^◌, [], ◌∷◌, ◌++◌, length, map, filter, None, All, IfOk, OnOk, IfSome, slice_index_or, slice_set};
 ghost use Rattle.std.specs.List.{range_with_len};
 ghost use Rattle.sp_mps_words.specs.declared.kinds.RowKind.TheVariants.{Free};
-ghost use Rattle.sp_mps.specs.Fronts.{listed};
+ghost use Rattle.sp_mps_sections.specs.Fronts.{listed};
 ghost use Rattle.sp_mps.specs.Drafts.{sides_for, side_or_zero, draft_row, is_plain, draft_rows, draft_indicator, constant_of, constants_of, cost_of, is_maximised, draft_of};
-ghost use Rattle.sp_mps.specs.inner.Reads.{IsKnown, IsKnownRow};
+ghost use Rattle.sp_mps.specs.inner.Reads.{IsKnown};
+ghost use Rattle.sp_mps.specs.inner.Parts.{IsMadeOf, AreRowParts, IsJoined};
 ghost use Rattle.sp_mps.specs.inner.Tables.{term_table, side_table, range_table, row_of, indicator_of, cost_at, constants_at};
 
-use crate::columns::ColumnList;
 use crate::draft_vars::draft_vars;
-use crate::names::contains;
 use crate::reader::Reader;
 use crate::row_tables::{range_table, side_table, term_table};
 use sp_decimal::{Decimal, Numeral};
-use sp_draft::{Draft, DraftIndicator, DraftRow, Sense, Sides};
+use sp_draft::{Draft, DraftIndicator, DraftRow, DraftVar, Sense, Sides};
 use sp_model::{Items, VarId};
+use sp_mps_sections::{ColumnList, IndicatorRow};
 use sp_mps_words::RowKind;
 use std::alloc::{AllocError, Global};
 use std::mem::replace;
@@ -89,7 +89,8 @@ fn sides_at(
     ranges: &[Option<Decimal>],
     row: usize,
 ) -> Sides
-    ensures { result ≡ sides_for (slice_index_or kinds.now row Free) (side_or_zero (slice_index_or sides.now row None)) (slice_index_or ranges.now row None) }
+    ensures { result ≡ sides_for (slice_index_or kinds.now row Free) (side_or_zero (slice_index_or sides.now row
+        None)) (slice_index_or ranges.now row None) }
 {
     sides_for(
         kind_at(kinds, row),
@@ -133,9 +134,12 @@ struct RowTables {
 
 /// What the lines say of rows, gathered by row.
 fn row_tables(alloc: Global, reader: &Reader) -> Result<RowTables, AllocError>
-    ensures terms { IfOk result (λ t. t.terms.items ≡ term_table (length reader.now.rows.names) reader.now.columns.terms) }
-    ensures sides { IfOk result (λ t. t.sides.items ≡ side_table (length reader.now.rows.names) reader.now.sides.sides) }
-    ensures ranges { IfOk result (λ t. t.ranges.items ≡ range_table (length reader.now.rows.names) reader.now.ranges.ranges) }
+    ensures terms { IfOk result (λ t. t.terms.items ≡ term_table (length reader.now.rows.names)
+        reader.now.columns.terms) }
+    ensures sides { IfOk result (λ t. t.sides.items ≡ side_table (length reader.now.rows.names)
+        reader.now.sides.sides) }
+    ensures ranges { IfOk result (λ t. t.ranges.items ≡ range_table (length reader.now.rows.names)
+        reader.now.ranges.ranges) }
 {
     let count = reader.rows.names.len();
     let terms = term_table(alloc, count, reader.columns.terms.as_slice())?;
@@ -155,7 +159,8 @@ fn row_at(
     tables: &RowTables,
     row: usize,
 ) -> Result<DraftRow, AllocError>
-    ensures { IfOk result (λ made. made ≡ row_of kinds.now tables.now.terms.items tables.now.sides.items tables.now.ranges.items row) }
+    ensures { IfOk result (λ made. made ≡ row_of kinds.now tables.now.terms.items tables.now.sides.items
+        tables.now.ranges.items row) }
 {
     let terms = copied_at(alloc, tables.terms.as_slice(), row)?;
     Ok(DraftRow {
@@ -169,22 +174,49 @@ fn row_at(
     })
 }
 
+/// The indicator that a line makes.
+fn indicator_at(
+    alloc: Global,
+    kinds: &[RowKind],
+    tables: &RowTables,
+    line: &IndicatorRow,
+) -> Result<DraftIndicator, AllocError>
+    ensures { IfOk result (λ made. made ≡ indicator_of kinds.now tables.now.terms.items tables.now.sides.items
+        tables.now.ranges.items line.now) }
+{
+    let row = row_at(alloc, kinds, tables, line.row)?;
+    Ok(DraftIndicator {
+        var: line.column,
+        on: line.on,
+        row,
+    })
+}
+
+/// Puts the indicator at the end.
+fn push_indicator(
+    made: &mut Vec<DraftIndicator>,
+    indicator: DraftIndicator,
+) -> Result<(), AllocError>
+    ensures { OnOk result (made.new.items ≡ made.old.items ++ indicator ∷ []) }
+{
+    made.push(indicator)?;
+    Ok(())
+}
+
 /// The indicators, in the order of their lines.
 fn indicators(
     alloc: Global,
-    reader: &Reader,
+    kinds: &[RowKind],
     tables: &RowTables,
+    lines: &[IndicatorRow],
 ) -> Result<Vec<DraftIndicator>, AllocError>
-    ensures { IfOk result (λ made. made.items ≡ map (indicator_of reader.now.rows.kinds tables.now.terms.items tables.now.sides.items tables.now.ranges.items) reader.now.indicators.rows) }
+    ensures { IfOk result (λ made. made.items ≡ map (indicator_of kinds.now tables.now.terms.items
+        tables.now.sides.items tables.now.ranges.items) lines.now) }
 {
     let mut made = Vec::new(alloc);
-    for line in reader.indicators.rows.as_slice() {
-        let row = row_at(alloc, reader.rows.kinds.as_slice(), tables, line.row)?;
-        made.push(DraftIndicator {
-            var: line.column,
-            on: line.on,
-            row,
-        })?;
+    for line in lines {
+        let indicator = indicator_at(alloc, kinds, tables, line)?;
+        push_indicator(&mut made, indicator)?;
     }
     Ok(made)
 }
@@ -244,7 +276,7 @@ fn is_plain(reader: &Reader, row: usize) -> bool
     ensures { result ≡ is_plain reader.now row }
 {
     let name = reader.rows.names.name(VarId::new(row as u32));
-    !reader.rows.is_free_at(row) && !contains(&reader.indicators.names, name)
+    !reader.rows.is_free_at(row) && !reader.indicators.holds(name)
 }
 
 /// Takes the terms of the row out of the table.
@@ -271,7 +303,11 @@ fn push_row(
     sides: Sides,
     row: usize,
 ) -> Result<(), AllocError>
-    ensures made { OnOk result (made.new.items ≡ made.old.items ++ record { terms = slice_index_or table.old.items row []; sides = sides } ∷ []) }
+    ensures made { OnOk result (made.new.items ≡ made.old.items ++ record {
+      terms = slice_index_or table.old.items row
+          [];
+      sides = sides;
+    } ∷ []) }
     ensures table { OnOk result (table.new.items ≡ slice_set table.old.items row []) }
 {
     let terms = taken(alloc, table, row);
@@ -281,7 +317,9 @@ fn push_row(
 
 /// The rows that aren't indicators and whose kind isn't N, in their order.
 fn rows(alloc: Global, reader: &Reader, tables: RowTables) -> Result<Vec<DraftRow>, AllocError>
-    ensures { IfOk result (λ made. made.items ≡ map (row_of reader.now.rows.kinds tables.terms.items tables.sides.items tables.ranges.items) (filter (is_plain reader.now) (range_with_len 0 (length reader.now.rows.names)))) }
+    ensures { IfOk result (λ made. made.items ≡ map (row_of reader.now.rows.kinds tables.terms.items
+        tables.sides.items tables.ranges.items) (filter (is_plain reader.now) (range_with_len 0 (length
+        reader.now.rows.names)))) }
 {
     let RowTables {
         mut terms,
@@ -303,28 +341,81 @@ fn rows(alloc: Global, reader: &Reader, tables: RowTables) -> Result<Vec<DraftRo
     Ok(made)
 }
 
+/// What a draft says of rows, and the objective.
+#[derive(Drop)]
+pub(crate) struct RowParts {
+    /// The terms of the objective.
+    pub cost: Items<(VarId, Decimal)>,
+    /// The constants of the objective.
+    pub constants: Items<Decimal>,
+    /// The rows.
+    pub rows: Items<DraftRow>,
+    /// The indicators.
+    pub indicators: Items<DraftIndicator>,
+}
+
+/// The parts of a draft that are made of what is gathered by row.
+fn parts_from(alloc: Global, reader: &Reader, tables: RowTables) -> Result<RowParts, AllocError>
+    ensures { IfOk result (IsMadeOf reader.now tables.terms.items tables.sides.items tables.ranges.items) }
+{
+    let kinds = reader.rows.kinds.as_slice();
+    let lines = reader.indicators.rows.as_slice();
+    let cost = cost(alloc, reader.rows.objective, &tables)?;
+    let constants = constants(alloc, reader.rows.objective, &tables)?;
+    let indicators = indicators(alloc, kinds, &tables, lines)?;
+    let rows = rows(alloc, reader, tables)?;
+    Ok(RowParts {
+        cost,
+        constants,
+        rows: Items::from_vec(rows),
+        indicators: Items::from_vec(indicators),
+    })
+}
+
+/// The parts of a draft that speak of rows.
+fn row_parts(alloc: Global, reader: &Reader) -> Result<RowParts, AllocError>
+    requires { IsKnown reader.now }
+    ensures { IfOk result (AreRowParts reader.now) }
+{
+    let tables = row_tables(alloc, reader)?;
+    let parts = parts_from(alloc, reader, tables)?;
+    Ok(parts)
+}
+
+/// The draft of its parts.
+fn joined(alloc: Global, reader: Reader, vars: Vec<DraftVar>, parts: RowParts) -> Draft
+    ensures { IsJoined reader vars.items parts result }
+{
+    let Reader {
+        columns,
+        direction,
+        ..
+    } = reader;
+    let ColumnList { names, .. } = columns;
+    let RowParts {
+        cost,
+        constants,
+        rows,
+        indicators,
+    } = parts;
+    Draft {
+        maximize: direction.unwrap_or(false),
+        names,
+        vars: Items::from_vec(vars),
+        cost,
+        constants,
+        rows,
+        indicators,
+        sos: Items::new(alloc),
+    }
+}
+
 /// The draft that the lines make.
 pub(crate) fn draft_of(alloc: Global, reader: Reader) -> Result<Draft, AllocError>
     requires { IsKnown reader }
     ensures { IfOk result (λ d. d ≡ draft_of reader) }
 {
     let vars = draft_vars(alloc, &reader)?;
-    let tables = row_tables(alloc, &reader)?;
-    let cost = cost(alloc, reader.rows.objective, &tables)?;
-    let constants = constants(alloc, reader.rows.objective, &tables)?;
-    let indicators = indicators(alloc, &reader, &tables)?;
-    let rows = rows(alloc, &reader, tables)?;
-    let maximize = reader.direction.unwrap_or(false);
-    let Reader { columns, .. } = reader;
-    let ColumnList { names, .. } = columns;
-    Ok(Draft {
-        maximize,
-        names,
-        vars: Items::from_vec(vars),
-        cost,
-        constants,
-        rows: Items::from_vec(rows),
-        indicators: Items::from_vec(indicators),
-        sos: Items::new(alloc),
-    })
+    let parts = row_parts(alloc, &reader)?;
+    Ok(joined(alloc, reader, vars, parts))
 }

@@ -27,11 +27,13 @@ pub fn read_mps(alloc: Global, bytes: &[u8]) -> Result<Draft, ReadRefusal>
     // The draft is that of the lines, and what `lower` asks for.
     ensures found { IfOk result (IsDraft (lines_of bytes.now)) }
     ensures known { IfOk result IsWellFormed }
-    ensures only { (d : Draft) → IsDraft (lines_of bytes.now) d → (result ≡ Ok d) ⊎ (result ≡ Err ReadRefusal.NoMemory) }
+    ensures only { (d : Draft) → IsDraft (lines_of bytes.now) d → (result ≡ Ok d) ⊎ (result ≡ Err
+        ReadRefusal.NoMemory) }
 
     // Each refusal but want of memory is that of the lines.
     ensures refused { IfErr result (λ r. (r ≡ ReadRefusal.NoMemory) ⊎ IsRefused (lines_of bytes.now) r) }
-    ensures first { (r : ReadRefusal) → IsRefused (lines_of bytes.now) r → (result ≡ Err r) ⊎ (result ≡ Err ReadRefusal.NoMemory) }
+    ensures first { (r : ReadRefusal) → IsRefused (lines_of bytes.now) r → (result ≡ Err r) ⊎ (result ≡ Err
+        ReadRefusal.NoMemory) }
 {
     match read(alloc, bytes) {
         Err(refusal) => Err(refusal),

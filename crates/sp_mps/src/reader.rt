@@ -1,24 +1,22 @@
 //! What was read of a file so far, and its next line.
-ghost use Rattle.std.specs.Prelude.{◌≡◌, ◌+◌, ◌<◌, ◌^◌, length, Ok};
+ghost use Rattle.std.specs.Prelude.{◌≡◌, ◌+◌, ◌<◌, ◌^◌, ◌++◌, ◌∷◌, [], length, Ok};
 ghost use Rattle.sp_mps_words.specs.Lines.{line_of};
-ghost use Rattle.sp_mps.specs.Fronts.{last_of};
-ghost use Rattle.sp_mps.specs.Order.{check_head, check_direction};
+ghost use Rattle.sp_mps_sections.specs.Fronts.{last_of};
+ghost use Rattle.sp_mps_sections.specs.Order.{check_head, check_direction};
 ghost use Rattle.sp_mps_words.specs.Kinds.{bound_kind_of};
-ghost use Rattle.sp_mps.specs.Sides.{check_rhs, check_ranges, set_name, sides_on, ranges_on};
-ghost use Rattle.sp_mps.specs.Bounds.{check_bound, set_on, bounds_on};
+ghost use Rattle.sp_mps_sections.specs.Sides.{check_rhs, check_ranges, set_name, sides_on, ranges_on};
+ghost use Rattle.sp_mps_sections.specs.Bounds.{check_bound, set_on, bounds_on};
 ghost use Rattle.sp_mps.specs.Checks.{check_data, check_words};
-ghost use Rattle.sp_mps.specs.inner.Steps.{Gives, unless, or_else, start, with_head, with_direction, with_sides, put_sides, with_ranges, put_ranges, with_bounds, put_bounds, with_data, step};
+ghost use Rattle.sp_mps_sections.specs.Answers.{Gives, unless, or_else};
+ghost use Rattle.sp_mps_sections.specs.Additions.{with_sides, with_ranges, with_bounds};
+ghost use Rattle.sp_mps.specs.inner.Steps.{start, with_head, with_direction, put_sides, put_ranges, put_bounds, with_data, step};
 ghost use Rattle.sp_mps.specs.inner.Room.{HasRoom};
 
-use crate::bounds::BoundList;
-use crate::columns::ColumnList;
-use crate::indicators::IndicatorList;
-use crate::line_faults::LineFault;
-use crate::order::{check_direction, check_head, direction_at};
-use crate::pairs::push_one;
-use crate::rows::RowList;
-use crate::sides::{RangeList, SideList};
 use sp_model::Items;
+use sp_mps_sections::{
+    BoundList, ColumnList, IndicatorList, LineFault, RangeList, RowList, SideList, check_direction,
+    check_head, direction_at,
+};
 use sp_mps_words::{FaultKind, Head, LineFields, LineKind, Tables, kind_of_line, line_fields_of};
 use std::alloc::Global;
 
@@ -75,6 +73,16 @@ impl Reader {
         }
     }
 
+    /// Puts the head behind the others.
+    fn push_head(&mut self, head: Head) -> Result<(), LineFault>
+        ensures { Gives result self.new (Ok (record self.old { heads = self.old.heads ++ head ∷ [] })) }
+    {
+        match self.heads.push(head) {
+            Ok(()) => Ok(()),
+            Err(_) => Err(LineFault::NoMemory),
+        }
+    }
+
     /// Takes a section line.
     fn head(
         &mut self,
@@ -83,7 +91,8 @@ impl Reader {
         count: usize,
         second: &[u8],
     ) -> Result<(), LineFault>
-        ensures { Gives result self.new (unless (check_head self.old.heads head count second.now) (with_head head count second.now self.old)) }
+        ensures { Gives result self.new (unless (check_head self.old.heads head count second.now) (with_head head
+            count second.now self.old)) }
     {
         match check_head(tables, self.heads.as_slice(), head, count, second) {
             Err(kind) => Err(LineFault::Refused(kind)),
@@ -91,7 +100,7 @@ impl Reader {
                 self.note_direction(direction_at(tables, head, count, second));
                 match head {
                     None => Ok(()),
-                    Some(head) => push_one(&mut self.heads, head),
+                    Some(head) => self.push_head(head),
                 }
             }
         }
@@ -99,7 +108,8 @@ impl Reader {
 
     /// Takes a data line of OBJSENSE.
     fn sense(&mut self, tables: &Tables, count: usize, word: &[u8]) -> Result<(), LineFault>
-        ensures { Gives result self.new (unless (check_direction self.old.direction count word.now) (with_direction word.now self.old)) }
+        ensures { Gives result self.new (unless (check_direction self.old.direction count word.now) (with_direction
+            word.now self.old)) }
     {
         match check_direction(tables, self.direction, count, word) {
             Err(kind) => Err(LineFault::Refused(kind)),
@@ -113,8 +123,11 @@ impl Reader {
     /// Takes a data line of RHS.
     fn side(&mut self, alloc: Global, fields: &LineFields<'_>) -> Result<(), LineFault>
         ensures { Gives result self.new (unless
-            (check_rhs self.old.rows self.old.sides.set fields.now.count fields.now.first.now fields.now.second.now fields.now.third.now fields.now.fourth.now fields.now.fifth.now)
-            (put_sides self.old (with_sides (set_name fields.now.count fields.now.first.now) (sides_on self.old.rows fields.now.count fields.now.first.now fields.now.second.now fields.now.third.now fields.now.fourth.now fields.now.fifth.now) self.old.sides))) }
+            (check_rhs self.old.rows self.old.sides.set fields.now.count fields.now.first.now fields.now.second.now
+            fields.now.third.now fields.now.fourth.now fields.now.fifth.now)
+            (put_sides self.old (with_sides (set_name fields.now.count fields.now.first.now) (sides_on self.old.rows
+            fields.now.count fields.now.first.now fields.now.second.now fields.now.third.now fields.now.fourth.now
+            fields.now.fifth.now) self.old.sides))) }
     {
         self.sides.read(alloc, &self.rows, fields)
     }
@@ -122,8 +135,11 @@ impl Reader {
     /// Takes a data line of RANGES.
     fn range(&mut self, alloc: Global, fields: &LineFields<'_>) -> Result<(), LineFault>
         ensures { Gives result self.new (unless
-            (check_ranges self.old.rows self.old.ranges.set fields.now.count fields.now.first.now fields.now.second.now fields.now.third.now fields.now.fourth.now fields.now.fifth.now)
-            (put_ranges self.old (with_ranges (set_name fields.now.count fields.now.first.now) (ranges_on self.old.rows fields.now.count fields.now.first.now fields.now.second.now fields.now.third.now fields.now.fourth.now fields.now.fifth.now) self.old.ranges))) }
+            (check_ranges self.old.rows self.old.ranges.set fields.now.count fields.now.first.now
+            fields.now.second.now fields.now.third.now fields.now.fourth.now fields.now.fifth.now)
+            (put_ranges self.old (with_ranges (set_name fields.now.count fields.now.first.now) (ranges_on
+            self.old.rows fields.now.count fields.now.first.now fields.now.second.now fields.now.third.now
+            fields.now.fourth.now fields.now.fifth.now) self.old.ranges))) }
     {
         self.ranges.read(alloc, &self.rows, fields)
     }
@@ -136,8 +152,11 @@ impl Reader {
         fields: &LineFields<'_>,
     ) -> Result<(), LineFault>
         ensures { Gives result self.new (unless
-            (check_bound self.old.columns.names self.old.bounds.set (bound_kind_of fields.now.first.now) fields.now.count fields.now.second.now fields.now.third.now fields.now.fourth.now)
-            (put_bounds self.old (with_bounds (set_on (bound_kind_of fields.now.first.now) fields.now.count fields.now.second.now) (bounds_on self.old.columns.names (bound_kind_of fields.now.first.now) fields.now.count fields.now.second.now fields.now.third.now fields.now.fourth.now) self.old.bounds))) }
+            (check_bound self.old.columns.names self.old.bounds.set (bound_kind_of fields.now.first.now)
+            fields.now.count fields.now.second.now fields.now.third.now fields.now.fourth.now)
+            (put_bounds self.old (with_bounds (set_on (bound_kind_of fields.now.first.now) fields.now.count
+            fields.now.second.now) (bounds_on self.old.columns.names (bound_kind_of fields.now.first.now)
+            fields.now.count fields.now.second.now fields.now.third.now fields.now.fourth.now) self.old.bounds))) }
     {
         self.bounds.read(
             alloc,
@@ -159,8 +178,10 @@ impl Reader {
     ) -> Result<(), LineFault>
         requires { HasRoom self.old }
         ensures { Gives result self.new (unless
-            (check_data self.old (last_of self.old.heads) fields.now.count fields.now.first.now fields.now.second.now fields.now.third.now fields.now.fourth.now fields.now.fifth.now)
-            (with_data (last_of self.old.heads) fields.now.count fields.now.first.now fields.now.second.now fields.now.third.now fields.now.fourth.now fields.now.fifth.now self.old)) }
+            (check_data self.old (last_of self.old.heads) fields.now.count fields.now.first.now fields.now.second.now
+            fields.now.third.now fields.now.fourth.now fields.now.fifth.now)
+            (with_data (last_of self.old.heads) fields.now.count fields.now.first.now fields.now.second.now
+            fields.now.third.now fields.now.fourth.now fields.now.fifth.now self.old)) }
     {
         match self.last_head() {
             Some(Head::Objsense) => self.sense(tables, fields.count, fields.first),

@@ -4,10 +4,10 @@ ghost use Rattle.sp_mps_words.specs.Lines.{line_of, lines_of};
 ghost use Rattle.sp_mps.specs.Verdicts.{ends, is_endata, refusal_of};
 ghost use Rattle.sp_mps.specs.inner.Reads.{Says, refusal_at};
 
-use crate::line_faults::LineFault;
 use crate::reader::Reader;
 use sp_base::next_line;
 use sp_draft::ReadRefusal;
+use sp_mps_sections::LineFault;
 use sp_mps_words::{FaultKind, Head, LineKind, Tables, kind_of_line, line_fields_of};
 use std::alloc::Global;
 

@@ -3,15 +3,15 @@ ghost use Rattle.std.specs.Prelude.{◌≡◌, [], ◌∷◌, ◌++◌, length, 
 ghost use Rattle.sp_mps.specs.Drafts.{written};
 ghost use Rattle.sp_mps.specs.inner.Tables.{term_table, side_table, range_table};
 
-use crate::columns::Term;
-use crate::pairs::{RowSide, RowValue};
 use sp_decimal::{Decimal, Numeral};
 use sp_model::{Items, VarId};
+use sp_mps_sections::{RowSide, RowValue, Term};
 use std::alloc::{AllocError, Global};
 
 /// Adds the term to its row, if there is one.
 fn add_term(table: &mut Vec<Items<(VarId, Decimal)>>, term: Term) -> Result<(), AllocError>
-    ensures { OnOk result (table.new.items ≡ slice_set table.old.items term.row (slice_index_or table.old.items term.row [] ++ written term ∷ [])) }
+    ensures { OnOk result (table.new.items ≡ slice_set table.old.items term.row (slice_index_or table.old.items
+        term.row [] ++ written term ∷ [])) }
 {
     if term.row < table.len() {
         table[term.row].push((term.column, term.value))?;

@@ -11,7 +11,9 @@ use Rattle.sp_mps_words.specs.Words.{Word}
 
 -- the heads, each with its code
 abbrev pub head_rows : List Row
-head_rows = zip (spellings (codes "name objsense rows columns rhs ranges bounds indicators endata")) (1 ∷ 2 ∷ 3 ∷ 4 ∷ 5 ∷ 6 ∷ 7 ∷ 8 ∷ 9 ∷ [])
+head_rows =
+    zip (spellings (codes "name objsense rows columns rhs ranges bounds indicators endata"))
+    (1 ∷ 2 ∷ 3 ∷ 4 ∷ 5 ∷ 6 ∷ 7 ∷ 8 ∷ 9 ∷ [])
 
 pub record HasHeads (table : Words 9) : Type 0 where
   pub rows : rows_in table ≡ head_rows

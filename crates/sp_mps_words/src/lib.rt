@@ -1,4 +1,4 @@
-//! The words of MPS files: what a line is, its fields, and what the words of heads, kinds, markers and values stand for.
+//! The words of MPS files: lines, their fields, and what the words of heads, kinds, markers and values stand for.
 #![tactic(auto)]
 
 mod faults;

@@ -5,10 +5,10 @@ use Rattle.sp_draft.specs.declared.read_refusals.ReadRefusal.TheVariants as refu
 use Rattle.sp_mps_words.specs.Lines.{Line}
 use Rattle.sp_mps.specs.Facts.{facts}
 use Rattle.sp_mps.specs.Verdicts.{IsFirst, Ends, IsRefused, refusal_of}
-use Rattle.sp_mps.specs.declared.columns.Term.{Term}
-use Rattle.sp_mps.specs.declared.indicators.IndicatorRow.{IndicatorRow}
-use Rattle.sp_mps.specs.declared.line_faults.LineFault.{LineFault}
-use Rattle.sp_mps.specs.declared.line_faults.LineFault.TheVariants.{Refused, NoMemory}
+use Rattle.sp_mps_sections.specs.declared.columns.Term.{Term}
+use Rattle.sp_mps_sections.specs.declared.indicators.IndicatorRow.{IndicatorRow}
+use Rattle.sp_mps_sections.specs.declared.line_faults.LineFault.{LineFault}
+use Rattle.sp_mps_sections.specs.declared.line_faults.LineFault.TheVariants.{Refused, NoMemory}
 use Rattle.sp_mps.specs.declared.reader.Reader.{Reader}
 
 pub record IsKnownRow (rows columns : ℕ) (i : IndicatorRow) : Type 0 where

@@ -7,14 +7,14 @@ use Rattle.sp_draft.specs.Drafts.{WrittenTerm}
 use Rattle.sp_draft.specs.declared.drafts.DraftVar.{DraftVar}
 use Rattle.sp_draft.specs.declared.drafts.DraftRow.{DraftRow}
 use Rattle.sp_draft.specs.declared.drafts.DraftIndicator.{DraftIndicator}
-use Rattle.sp_mps.specs.declared.indicators.IndicatorRow.{IndicatorRow}
+use Rattle.sp_mps_sections.specs.declared.indicators.IndicatorRow.{IndicatorRow}
 use Rattle.sp_mps_words.specs.declared.kinds.RowKind.{RowKind}
 use Rattle.sp_mps_words.specs.declared.kinds.RowKind.TheVariants.{Free}
 use Rattle.sp_mps.specs.Drafts.{constant_of, sides_for, side_or_zero, row_terms, last_side, last_range, bounds_of, is_bounded, with_line, first_var}
-use Rattle.sp_mps.specs.declared.bounds.ColumnBound.{ColumnBound}
-use Rattle.sp_mps.specs.declared.columns.Term.{Term}
-use Rattle.sp_mps.specs.declared.pairs.RowSide.{RowSide}
-use Rattle.sp_mps.specs.declared.pairs.RowValue.{RowValue}
+use Rattle.sp_mps_sections.specs.declared.bounds.ColumnBound.{ColumnBound}
+use Rattle.sp_mps_sections.specs.declared.columns.Term.{Term}
+use Rattle.sp_mps_sections.specs.declared.pairs.RowSide.{RowSide}
+use Rattle.sp_mps_sections.specs.declared.pairs.RowValue.{RowValue}
 
 -- the terms of each row
 unfoldable pub term_table : ℕ → List Term → List (List WrittenTerm)
@@ -41,14 +41,18 @@ abbrev pub first_at : List Bool → List Bool → ℕ → DraftVar
 first_at integers bounded place = first_var (slice_index_or integers place false) (slice_index_or bounded place false)
 
 -- the row at the place, of what is gathered by row
-abbrev pub row_of : List RowKind → List (List WrittenTerm) → List (Option Numeral) → List (Option DecimalFraction) → ℕ → DraftRow
+abbrev pub row_of : List RowKind → List (List WrittenTerm) → List (Option Numeral) → List (Option DecimalFraction) → ℕ
+    → DraftRow
 row_of kinds terms sides ranges row = record {
   terms = slice_index_or terms row [];
-  sides = sides_for (slice_index_or kinds row Free) (side_or_zero (slice_index_or sides row None)) (slice_index_or ranges row None);
+  sides = sides_for (slice_index_or kinds row Free) (side_or_zero (slice_index_or sides row None)) (slice_index_or
+      ranges row None);
 }
 
-abbrev pub indicator_of : List RowKind → List (List WrittenTerm) → List (Option Numeral) → List (Option DecimalFraction) → IndicatorRow → DraftIndicator
-indicator_of kinds terms sides ranges i = record { var = i.column; on = i.on; row = row_of kinds terms sides ranges i.row }
+abbrev pub indicator_of : List RowKind → List (List WrittenTerm) → List (Option Numeral) → List (Option
+    DecimalFraction) → IndicatorRow → DraftIndicator
+indicator_of kinds terms sides ranges i =
+    record { var = i.column; on = i.on; row = row_of kinds terms sides ranges i.row }
 
 -- the terms and the constants of the objective, of what is gathered by row
 abbrev pub cost_at : List (List WrittenTerm) → Option ℕ → List WrittenTerm

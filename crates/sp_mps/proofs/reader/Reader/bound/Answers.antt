@@ -1,5 +1,6 @@
-use Rattle.sp_mps.specs.Bounds.{check_bound, set_on, bounds_on}
-use Rattle.sp_mps.specs.inner.Steps.{with_bounds, put_bounds}
+use Rattle.sp_mps_sections.specs.Bounds.{check_bound, set_on, bounds_on}
+use Rattle.sp_mps_sections.specs.Additions.{with_bounds}
+use Rattle.sp_mps.specs.inner.Steps.{put_bounds}
 use Rattle.sp_mps.proofs.StepLemmas.{lift}
 use Rattle.sp_mps.proofs.reader.Reader.bound.Goals as goal
 

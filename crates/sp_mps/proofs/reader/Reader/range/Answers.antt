@@ -1,5 +1,6 @@
-use Rattle.sp_mps.specs.Sides.{check_ranges, set_name, ranges_on}
-use Rattle.sp_mps.specs.inner.Steps.{with_ranges, put_ranges}
+use Rattle.sp_mps_sections.specs.Sides.{check_ranges, set_name, ranges_on}
+use Rattle.sp_mps_sections.specs.Additions.{with_ranges}
+use Rattle.sp_mps.specs.inner.Steps.{put_ranges}
 use Rattle.sp_mps.proofs.StepLemmas.{lift}
 use Rattle.sp_mps.proofs.reader.Reader.range.Goals as goal
 

@@ -1,5 +1,6 @@
-use Rattle.sp_mps.specs.Sides.{check_rhs, set_name, sides_on}
-use Rattle.sp_mps.specs.inner.Steps.{with_sides, put_sides}
+use Rattle.sp_mps_sections.specs.Sides.{check_rhs, set_name, sides_on}
+use Rattle.sp_mps_sections.specs.Additions.{with_sides}
+use Rattle.sp_mps.specs.inner.Steps.{put_sides}
 use Rattle.sp_mps.proofs.StepLemmas.{lift}
 use Rattle.sp_mps.proofs.reader.Reader.side.Goals as goal
 

@@ -1,0 +1,12 @@
+pub mod Fronts
+pub mod Faults
+pub mod Order
+pub mod Rows
+pub mod Pairs
+pub mod Columns
+pub mod Sides
+pub mod Bounds
+pub mod Indicators
+pub mod Answers
+pub mod Additions
+pub mod inner

@@ -1,2 +1,3 @@
+pub mod CollectedLemmas
 pub mod MergeLemmas
 pub mod ScaleLemmas

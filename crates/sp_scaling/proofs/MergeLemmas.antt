@@ -180,7 +180,7 @@ past-all : (ts : List Term) → All (λ t. t.0 < past ts) ts
 past-all [] = All-nil _
 past-all (t ∷ ts) = All-cons (λ u. u.0 < past (t ∷ ts)) t ts (omega arith) (All-weaker (λ (u : Term). u.0 < past ts) (λ u. u.0 < past (t ∷ ts)) (λ u h. omega arith) ts (past-all ts))
 
-past-below : (ts : List Term) (n : ℕ) → All (λ t. t.0 < n) ts → past ts ≤ n
+pub past-below : (ts : List Term) (n : ℕ) → All (λ t. t.0 < n) ts → past ts ≤ n
 past-below [] n h = omega arith
 past-below (t ∷ ts) n h =
     let a : t.0 < n = All-head (λ (u : Term). u.0 < n) t ts h in

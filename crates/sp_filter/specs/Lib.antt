@@ -1,4 +1,5 @@
 pub mod Filters
 pub mod Held
 pub mod InnerLowering
+pub mod Laws
 pub mod Lowering

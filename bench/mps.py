@@ -4,14 +4,17 @@ docs/performance.md.
 
 usage: bench/mps.py      after 'rt run' in crates/reader_bench; needs glpsol (Debian's glpk-utils)
 """
+import os
 import pathlib
 import random
+import resource
 import shutil
 import subprocess
 import sys
 import tempfile
+import time
 
-from tables import best, built, machine, peak, put
+from tables import built, machine, peak, put
 
 SEED = 23
 TERMS_OF_A_COLUMN = 10
@@ -36,7 +39,8 @@ def write_terms(path, terms):
     parts.append("    M         'MARKER'                 'INTEND'\nRHS\n")
     parts += [line(["RHS", row, str(draw.randrange(1000))]) for row in rows]
     parts.append("BOUNDS\n")
-    parts += [f" UP BND       flow_{number:07}  {draw.randrange(1, 50)}\n" for number in range(terms // TERMS_OF_A_COLUMN)]
+    bounded = range(terms // TERMS_OF_A_COLUMN)
+    parts += [f" UP BND       flow_{number:07}  {draw.randrange(1, 50)}\n" for number in bounded]
     text = "".join(parts) + "ENDATA\n"
     path.write_text(text)
     return len(text)
@@ -51,19 +55,29 @@ def write_names(path, count):
     return len(text)
 
 
-def checked(program, folder, file):
-    """The least seconds of three runs of `glpsol --check`, and its peak of memory."""
-    words = ["--freemps", str(file), "--check"]
-    seconds, printed = best(program, words, folder)
-    if b"records were read" not in printed:
-        sys.exit(f"glpsol prints {printed}")
-    return seconds, peak(program, words, folder)
+def run(program, words, folder, given):
+    """Runs the program once: its wall clock seconds, its processor seconds, and its standard output."""
+    output = pathlib.Path(folder) / "printed"
+    before, start = resource.getrusage(resource.RUSAGE_CHILDREN), time.perf_counter()
+    with open(given, "rb") as source, open(output, "wb") as sink:
+        subprocess.run([str(program), *words], cwd=folder, stdin=source, stdout=sink, check=False)
+    seconds, after = time.perf_counter() - start, resource.getrusage(resource.RUSAGE_CHILDREN)
+    spent = after.ru_utime - before.ru_utime + after.ru_stime - before.ru_stime
+    return seconds, spent, output.read_bytes()
 
 
-def row(label, name, length, seconds, held):
+def measured(program, words, folder, wanted, given=os.devnull):
+    """The least seconds of three runs, the least processor seconds, and the peak of memory in KiB or None."""
+    runs = [run(program, words, folder, given) for _ in range(3)]
+    if wanted not in runs[0][2]:
+        sys.exit(f"{program} prints {runs[0][2]}")
+    return min(r[0] for r in runs), min(r[1] for r in runs), peak(program, words, folder, given)
+
+
+def row(label, name, length, seconds, spent, held):
     """A line of the table."""
     shown = "-" if held is None else f"{held / 1024:.0f}"
-    return f"| {label} | {name} | {seconds:.2f} | {length / 1e6 / seconds:.0f} | {shown} |"
+    return f"| {label} | {name} | {seconds:.2f} | {spent:.2f} | {length / 1e6 / spent:.0f} | {shown} |"
 
 
 def main():
@@ -71,33 +85,33 @@ def main():
     if other is None:
         sys.exit("no glpsol")
     version = subprocess.run([other, "--version"], capture_output=True, text=True, check=True).stdout.split("\n")[0]
+    cases = [*(("terms", write_terms, size) for size in SIZES), ("rows and columns", write_names, SIZES[-1])]
     table, times = [], []
     with tempfile.TemporaryDirectory() as folder:
         file = pathlib.Path(folder) / "model.mps"
-        for label, write, count in [*(("terms", write_terms, size) for size in SIZES), ("rows and columns", write_names, SIZES[-1])]:
+        for label, write, count in cases:
             length = write(file, count)
-            seconds, printed = best(proved, ["mps"], folder, given=str(file))
-            if not printed.startswith(b"variables"):
-                sys.exit(f"reader_bench prints {printed}")
-            held = peak(proved, ["mps"], folder, str(file))
-            there = checked(other, folder, file)
+            here = measured(proved, ["mps"], folder, b"variables", given=str(file))
+            there = measured(other, ["--freemps", str(file), "--check"], folder, b"records were read")
             shown = f"{length / 1e6:.0f} MB, {count:,} {label}"
-            table += [row(shown, "proved", length, seconds, held), row(shown, "`glpsol --check`", length, *there)]
-            times.append((length, seconds, there[0]))
+            table += [row(shown, "proved", length, *here), row(shown, "`glpsol --check`", length, *there)]
+            times.append((length, here[1], there[1]))
     few, many = times[:2]
     text = f"""## Reading an MPS file
 
-Written by `bench/mps.py`, on {machine()}. The files have the layout of fixed MPS with long names: ten terms a column, a
-hundred a row, right-hand sides and bounds; the last one has as many rows and columns as terms. Seconds are the least of
-three runs of a whole process, which makes the whole draft and prints its sizes; beside it {version.removeprefix("GLPSOL--")}, which reads
-the file into its own model and stops. MB are millions of bytes, and memory is the peak as `/usr/bin/time` tells it.
+Written by `bench/mps.py`, on {machine()}.
+The files have the layout of fixed MPS with long names: ten terms a column, a hundred a row, right-hand sides and bounds;
+the last one has as many rows and columns as terms. Seconds are the least of three runs of a whole process, which makes
+the whole draft and prints its sizes; beside it {version.removeprefix("GLPSOL--")}, which reads the file into its own
+model and stops. Processor seconds count the process alone, whatever else the machine does; MB are millions of bytes, a
+second of the processor; memory is the peak as `/usr/bin/time` tells it.
 
-| File | Program | Seconds | MB a second | Peak memory, MiB |
-|---|---|---|---|---|
+| File | Program | Seconds | Processor seconds | MB a second | Peak memory, MiB |
+|---|---|---|---|---|---|
 """ + "\n".join(table) + f"""
 
-{many[0] / few[0]:.1f} times the bytes take {many[1] / few[1]:.1f} times as long here, and {many[2] / few[2]:.1f} times in glpsol: the time grows with the length of
-the file.
+{many[0] / few[0]:.1f} times the bytes take {many[1] / few[1]:.1f} times as long here, and {many[2] / few[2]:.1f} times in \
+glpsol: the time grows with the length of the file.
 """
     put("mps", text)
     print(text)

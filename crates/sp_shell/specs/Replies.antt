@@ -62,8 +62,7 @@ stopped_text nodes =
 -- the reply of an accepted read
 abbrev pub read_text : ℕ → ℕ → List ℕ
 read_text variables rows =
-    spelling wording.ReadVariables ++ decimal variables
-    ++ (spelling wording.Rows ++ decimal rows ++ spelling wording.LineEnd)
+    spelling wording.ReadVariables ++ decimal variables ++ spelling wording.Rows ++ decimal rows ++ spelling wording.LineEnd
 
 -- the reply that lists these serials; without a model there is none
 abbrev pub listed_text : Option Named → List (List ℤ) → Option ℤ → List ℕ → List ℕ

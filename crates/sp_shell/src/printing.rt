@@ -1,4 +1,5 @@
 //! The lines of replies. Nothing here takes memory: only the sink can answer that there is none.
+//! Where an error is matched and not passed on by `?`, the clause needs the fact of its arm.
 ghost use Rattle.std.specs.Prelude.{◌≡◌, ◌≤◌, ◌^◌, ◌++◌, length, IfSome, unsigned_abs};
 ghost use Rattle.std.specs.Fmt.{decimal, signed_decimal};
 ghost use Rattle.sp_base.specs.Writing.{Writes};
@@ -10,36 +11,13 @@ use crate::wordings::{Wording, bytes_of};
 use itoa::Buffer;
 use sp_base::{Sink, SinkEnd, Text, texts_grow, texts_join, write_all, write_each};
 
-/// Prints two pieces.
-fn put_two<'a, K: Sink>(sink: &mut K, first: &'a [u8], then: &'a [u8]) -> Result<(), SinkEnd>
-    ensures written { Writes K.Sink result sink.old sink.new (first.now ++ then.now) }
+/// Prints a name and a value, with a blank before each.
+fn print_words<'a, K: Sink>(sink: &mut K, name: &'a [u8], value: &'a [u8]) -> Result<(), SinkEnd>
+    ensures written { Writes K.Sink result sink.old sink.new
+        (spelling Wording.Blank ++ name.now ++ spelling Wording.Blank ++ value.now) }
 {
-    write_each(sink, &[first, then])
-}
-
-/// Prints three pieces.
-fn put_three<'a, K: Sink>(
-    sink: &mut K,
-    first: &'a [u8],
-    then: &'a [u8],
-    last: &'a [u8],
-) -> Result<(), SinkEnd>
-    ensures written { Writes K.Sink result sink.old sink.new (first.now ++ then.now ++ last.now) }
-{
-    write_each(sink, &[first, then, last])
-}
-
-/// Prints four pieces.
-fn put_four<'a, K: Sink>(
-    sink: &mut K,
-    first: &'a [u8],
-    second: &'a [u8],
-    third: &'a [u8],
-    last: &'a [u8],
-) -> Result<(), SinkEnd>
-    ensures written { Writes K.Sink result sink.old sink.new (first.now ++ second.now ++ third.now ++ last.now) }
-{
-    write_each(sink, &[first, second, third, last])
+    let blank = bytes_of(Wording::Blank);
+    write_each(sink, &[blank, name, blank, value])
 }
 
 /// Prints a variable with its value, where that isn't zero.
@@ -52,9 +30,7 @@ fn print_value<K: Sink>(sink: &mut K, name: &Text, value: &i64) -> Result<(), Si
         return Ok(());
     }
     let mut buffer = Buffer::new();
-    let digits = buffer.format(*value).as_bytes();
-    let blank = bytes_of(Wording::Blank);
-    put_four(sink, blank, name.as_slice(), blank, digits)
+    print_words(sink, name.as_slice(), buffer.format(*value).as_bytes())
 }
 
 /// Prints the variables that aren't zero with their values, in declared order.
@@ -93,7 +69,7 @@ fn print_objective<'a, K: Sink>(
 {
     let mut buffer = Buffer::new();
     let shown = user_value(maximize, value);
-    put_two(sink, buffer.format(shown).as_bytes(), then)
+    write_each(sink, &[buffer.format(shown).as_bytes(), then])
 }
 
 /// Prints the objective of a line and the variables that aren't zero.
@@ -146,12 +122,14 @@ fn print_optimum<K: Sink>(sink: &mut K, maximize: bool, best: &Option<i128>) -> 
         None => write_all(sink, bytes_of(Wording::Infeasible)),
         Some(value) => {
             let mut buffer = Buffer::new();
-            let shown = user_value(maximize, value);
-            put_three(
+            let digits = buffer.format(user_value(maximize, value)).as_bytes();
+            write_each(
                 sink,
-                bytes_of(Wording::Optimum),
-                buffer.format(shown).as_bytes(),
-                bytes_of(Wording::LineEnd),
+                &[
+                    bytes_of(Wording::Optimum),
+                    digits,
+                    bytes_of(Wording::LineEnd),
+                ],
             )
         }
     }
@@ -163,11 +141,14 @@ fn print_number<K: Sink>(sink: &mut K, number: usize) -> Result<(), SinkEnd>
         (spelling Wording.Solutions ++ decimal number ++ spelling Wording.LineEnd) }
 {
     let mut buffer = Buffer::new();
-    put_three(
+    let digits = buffer.format(number).as_bytes();
+    write_each(
         sink,
-        bytes_of(Wording::Solutions),
-        buffer.format(number).as_bytes(),
-        bytes_of(Wording::LineEnd),
+        &[
+            bytes_of(Wording::Solutions),
+            digits,
+            bytes_of(Wording::LineEnd),
+        ],
     )
 }
 
@@ -177,13 +158,9 @@ pub fn print_stopped<K: Sink>(sink: &mut K, nodes: u32) -> Result<(), SinkEnd>
     ensures written { Writes K.Sink result sink.old sink.new (stopped_text nodes) }
 {
     let mut buffer = Buffer::new();
-    put_four(
-        sink,
-        bytes_of(Wording::StatusNodeLimit),
-        bytes_of(Wording::Nodes),
-        buffer.format(nodes).as_bytes(),
-        bytes_of(Wording::LineEnd),
-    )
+    let digits = buffer.format(nodes).as_bytes();
+    let (status, before) = (bytes_of(Wording::StatusNodeLimit), bytes_of(Wording::Nodes));
+    write_each(sink, &[status, before, digits, bytes_of(Wording::LineEnd)])
 }
 
 /// Prints what stands before the solution lines of a complete list.
@@ -220,35 +197,12 @@ pub fn print_head<K: Sink>(
 pub fn print_read<K: Sink>(sink: &mut K, variables: usize, rows: usize) -> Result<(), SinkEnd>
     ensures written { Writes K.Sink result sink.old sink.new (read_text variables rows) }
 {
-    texts_join();
-    match print_variables(sink, variables) {
-        Err(end) => Err(end),
-        Ok(()) => print_rows(sink, rows),
-    }
-}
-
-/// Prints the number of variables of a model that was read.
-fn print_variables<K: Sink>(sink: &mut K, variables: usize) -> Result<(), SinkEnd>
-    ensures written { Writes K.Sink result sink.old sink.new (spelling Wording.ReadVariables ++ decimal variables) }
-{
-    let mut buffer = Buffer::new();
-    put_two(
+    let (mut first, mut second) = (Buffer::new(), Buffer::new());
+    let variables = first.format(variables).as_bytes();
+    let rows = second.format(rows).as_bytes();
+    let (before, between) = (bytes_of(Wording::ReadVariables), bytes_of(Wording::Rows));
+    write_each(
         sink,
-        bytes_of(Wording::ReadVariables),
-        buffer.format(variables).as_bytes(),
-    )
-}
-
-/// Prints the number of rows of a model that was read.
-fn print_rows<K: Sink>(sink: &mut K, rows: usize) -> Result<(), SinkEnd>
-    ensures written { Writes K.Sink result sink.old sink.new
-        (spelling Wording.Rows ++ decimal rows ++ spelling Wording.LineEnd) }
-{
-    let mut buffer = Buffer::new();
-    put_three(
-        sink,
-        bytes_of(Wording::Rows),
-        buffer.format(rows).as_bytes(),
-        bytes_of(Wording::LineEnd),
+        &[before, variables, between, rows, bytes_of(Wording::LineEnd)],
     )
 }

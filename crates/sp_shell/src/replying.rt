@@ -1,4 +1,5 @@
 //! The replies, whose listed points stand among the notes. Nothing here takes memory.
+//! Where an error is matched and not passed on by `?`, the clause needs the fact of its arm.
 ghost use Rattle.std.specs.Prelude.{◌≡◌, ◌<◌, ◌≤◌, ◌^◌, ◌++◌, All, length, flat_map, IfSome, unsigned_abs};
 ghost use Rattle.sp_base.specs.Writing.{Writes};
 ghost use Rattle.sp_model.specs.Boxes.{IsWithin};

@@ -53,9 +53,9 @@ pub fn wording_of(why: Refusal) -> Wording
     }
 }
 
-/// The bytes of a fixed part.
+/// The bytes of a fixed part. They last as long as is asked for, so that they stand beside other pieces in one list.
 #[tactic(auto, unfolding(crate::specs::Wording::spelling))]
-pub fn bytes_of(wording: Wording) -> &'static [u8]
+pub fn bytes_of<'a>(wording: Wording) -> &'a [u8]
     ensures { result.now ≡ spelling wording }
 {
     match wording {

@@ -44,8 +44,8 @@ pub fn model_of(alloc: Global, sizes: &Sizes) -> Result<Model> {
     let Some(rows) = sizes.terms.checked_div(variables) else {
         bail!("a model without variables has no terms");
     };
-    let lower = vec![in alloc; 0i64; variables as usize]?;
-    let upper = vec![in alloc; i64::from(UPPER); variables as usize]?;
+    let lower = vec![in alloc; Some(0i64); variables as usize]?;
+    let upper = vec![in alloc; Some(i64::from(UPPER)); variables as usize]?;
     let parts = ModelParts {
         maximize: false,
         scale: 0,
@@ -53,6 +53,7 @@ pub fn model_of(alloc: Global, sizes: &Sizes) -> Result<Model> {
         cost: terms_of(alloc, 0, variables)?,
         lower: Items::from_vec(lower),
         upper: Items::from_vec(upper),
+        semi: Items::new(alloc),
         rows: rows_of(alloc, rows, variables)?,
         indicators: Items::new(alloc),
         sos: Items::new(alloc),

@@ -1,19 +1,16 @@
 -- What a run of a model gives.
 use Rattle.std.specs.Prelude.{ℤ, ◌≤ℤ◌, ◌^◌, ◌*◌, ◌∷◌, filter, unsigned_abs, IfSome}
-use Rattle.std.proofs.Common.{◌≡◌, ℕ, zero, suc, refl, ◌+◌, ◌<◌, ◌≤◌, List, [], length, get_or, Option, None, Some, sym, ap, ◌∙◌, subst, arith}
+use Rattle.std.proofs.Common.{◌≡◌, ◌≢◌, ℕ, zero, suc, refl, ◌+◌, ◌<◌, ◌≤◌, AllPairs, List, [], length, get_or, Option, None, Some, sym, ap, ◌∙◌, subst, arith}
 use Rattle.std.proofs.lemmas.List.Elements.{All-contains_itself}
-use Rattle.std.proofs.lemmas.Map.Keys.{IsDistinct-from_sorted}
 use Rattle.sp_model.specs.declared.gaps.Gap.{Gap}
 use Rattle.sp_model.specs.declared.gaps.Gap.TheVariants as gap
 use Rattle.sp_model.specs.declared.gaps.Gaps.{Gaps}
 use Rattle.sp_model.specs.declared.parts.ModelParts.{ModelParts}
 use Rattle.sp_model.specs.Boxes.{IsWithin, room}
 use Rattle.sp_model.specs.Cuts.{cut_of}
-use Rattle.sp_model.specs.Models.{IsLeast, IsOptimum, objective, root_of}
-use Rattle.sp_model.specs.Lists.{point_cmp, points_of, IsFoundList, IsKept, IsList}
+use Rattle.sp_model.specs.Models.{Feasible, IsLeast, IsOptimum, objective, root_of}
+use Rattle.sp_list.specs.Lists.{points_of, IsFoundList, IsKept, IsList}
 use Rattle.sp_model.specs.Rules.{IsLawful}
-use Rattle.sp_model.proofs.ListLemmas.{points_total}
-use Rattle.sp_model.proofs.MemberLemmas.{pairs_from_distinct}
 use Rattle.sp_engine.specs.declared.journals.RunEnd.{RunEnd}
 use Rattle.sp_engine.specs.declared.journals.RunEnd.TheVariants as end
 use Rattle.sp_engine.specs.declared.solving.Solved.{Solved}
@@ -46,13 +43,20 @@ OneOptimum = (m : ModelParts) (best other : Option ℤ) → IsOptimum m best →
 abbrev pub SmallObjectives : Type 0
 SmallObjectives = (m : ModelParts) (x : List ℤ) → IsLawful m → IsWithin (root_of m) x → unsigned_abs (objective m x) ≤ 10 ^ 36
 
+abbrev pub FeasibleWithin : Type 0
+FeasibleWithin = (m : ModelParts) (x : List ℤ) → IsLawful m → Feasible m x → IsWithin (root_of m) x
+
+-- no point stands twice in a list
+abbrev pub DistinctPoints : Type 0
+DistinctPoints = (m : ModelParts) (cut : ℤ) (xs : List (List ℤ)) → IsList m cut xs → AllPairs (λ x y. x ≢ y) xs
+
 -- a complete list is legal
-legal_list : (m : ModelParts) (best : ℤ) (found : List (List ℤ)) (nodes : ℕ) → OneOptimum → IsLeast m best → IsList m (cut_of best no_gap m.scale) found → nodes ≡ room_of m
+legal_list : (m : ModelParts) (best : ℤ) (found : List (List ℤ)) (nodes : ℕ) → OneOptimum → DistinctPoints → IsLeast m best → IsList m (cut_of best no_gap m.scale) found → nodes ≡ room_of m
     → IsLegalRun (first_run m) found end.Done nodes
-legal_list m best found nodes one least list e = record {
+legal_list m best found nodes one apart least list e = record {
   feasible = λ k d h. (kept k d h).feasible;
   passing = λ k d h. refl;
-  once = pairs_from_distinct (points_total m) found (IsDistinct-from_sorted (point_cmp m) found list.ascending);
+  once = apart m (cut_of best no_gap m.scale) found list;
   within_cut = λ other l k d h. subst (λ b. objective m (get_or found k d) ≤ℤ cut_of b no_gap m.scale) (same other l) (kept k d h).near;
   stopped = λ h. absurd (ended h);
   complete = λ h. e;
@@ -101,12 +105,12 @@ solved_none m s b l e n none = record {
     empty = record { optimum = none; whole = points_of s.listed.items; listed = ap points_of l; filtered = sym (all_pass (points_of s.listed.items)) }
 
 -- the list at the optimum
-pub solved_list : (m : ModelParts) (s : Solved) (best : ℤ) → OneOptimum → s.best ≡ Some best → s.end ≡ end.Done → s.nodes ≡ room_of m → unsigned_abs best ≤ 10 ^ 36 → IsLeast m best
+pub solved_list : (m : ModelParts) (s : Solved) (best : ℤ) → OneOptimum → DistinctPoints → s.best ≡ Some best → s.end ≡ end.Done → s.nodes ≡ room_of m → unsigned_abs best ≤ 10 ^ 36 → IsLeast m best
     → IsFoundList m (cut_of best no_gap m.scale) s.listed.items → IsSolved m s
-solved_list m s best one b e n small least list = record {
+solved_list m s best one apart b e n small least list = record {
   answer = subst (λ ended. EndsWith m ended s.best (points_of s.listed.items)) (sym e) (subst (λ o. Lists m no_gap [] o (points_of s.listed.items)) (sym b) whole);
   small = subst (λ o. IfSome o (λ v. unsigned_abs v ≤ 10 ^ 36)) (sym b) small;
-  legal = subst (λ ended. IsLegalRun (first_run m) (points_of s.listed.items) ended s.nodes) (sym e) (legal_list m best (points_of s.listed.items) s.nodes one least list.points n);
+  legal = subst (λ ended. IsLegalRun (first_run m) (points_of s.listed.items) ended s.nodes) (sym e) (legal_list m best (points_of s.listed.items) s.nodes one apart least list.points n);
 }
   where
     whole : Lists m no_gap [] (Some best) (points_of s.listed.items)
@@ -131,6 +135,6 @@ pub gaps_are : (g : Gaps) → g.abs ≡ gap.Of 0 0 → g.rel ≡ gap.Unlimited �
 gaps_are g a r = ap (λ x. gaps_of x g.rel) a ∙ ap (gaps_of (gap.Of 0 0)) r
 
 -- the optimum is small
-pub small_best : (m : ModelParts) (best : ℤ) → SmallObjectives → IsLawful m → IsLeast m best → unsigned_abs best ≤ 10 ^ 36
-small_best m best small lawful least =
-    subst (λ v. unsigned_abs v ≤ 10 ^ 36) least.reached.2 (small m least.reached.0 lawful least.reached.1.within)
+pub small_best : (m : ModelParts) (best : ℤ) → SmallObjectives → FeasibleWithin → IsLawful m → IsLeast m best → unsigned_abs best ≤ 10 ^ 36
+small_best m best small within lawful least =
+    subst (λ v. unsigned_abs v ≤ 10 ^ 36) least.reached.2 (small m least.reached.0 lawful (within m least.reached.0 lawful least.reached.1))

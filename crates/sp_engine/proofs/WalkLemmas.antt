@@ -8,11 +8,12 @@ use Rattle.std.proofs.lemmas.List.{append_assoc, append-nil, map-append}
 use Rattle.std.proofs.lemmas.List.Elements.{filter-append}
 use Rattle.std.proofs.lemmas.Bool.{cases_lt}
 use Rattle.std.proofs.lemmas.Int.{ints, to_z-of_z, fits_signed_from_abs}
-use Rattle.sp_model.specs.declared.found.Found.{Found}
+use Rattle.sp_list.specs.declared.found.Found.{Found}
 use Rattle.sp_model.specs.declared.parts.ModelParts.{ModelParts}
 use Rattle.sp_model.specs.Boxes.{Bounds, points, numbers_from, width_of, natural, range_at, entry, IsWithin, IsBetween}
 use Rattle.sp_model.specs.Models.{root_of}
-use Rattle.sp_model.specs.Lists.{constraints_hold, found_at, found_points}
+use Rattle.sp_model.specs.Models.{constraints_hold}
+use Rattle.sp_list.specs.Lists.{found_at, found_points}
 use Rattle.sp_engine.specs.InnerWalk.{points_after, walk_after, IsFront}
 
 abbrev pub found_of : List ℤ → ℤ → Found

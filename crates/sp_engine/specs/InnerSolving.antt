@@ -1,7 +1,7 @@
 -- What a run of a model gives.
 use Rattle.std.specs.Prelude.{◌^◌, ◌≤◌, List, [], Option, IfSome, ℤ, unsigned_abs}
 use Rattle.sp_model.specs.declared.parts.ModelParts.{ModelParts}
-use Rattle.sp_model.specs.Lists.{points_of}
+use Rattle.sp_list.specs.Lists.{points_of}
 use Rattle.sp_engine.specs.declared.journals.RunEnd.{RunEnd}
 use Rattle.sp_engine.specs.declared.journals.RunEnd.TheVariants as end
 use Rattle.sp_engine.specs.declared.solving.Solved.{Solved}

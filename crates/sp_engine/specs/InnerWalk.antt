@@ -1,10 +1,11 @@
 -- The walk over all points of a model.
 use Rattle.std.specs.Prelude.{ℕ, ◌<◌, ◌≤◌, List, ◌++◌, length, map, filter, drop, ℤ}
-use Rattle.sp_model.specs.declared.found.Found.{Found}
+use Rattle.sp_list.specs.declared.found.Found.{Found}
 use Rattle.sp_model.specs.declared.parts.ModelParts.{ModelParts}
 use Rattle.sp_model.specs.Boxes.{Bounds, points, range_at, entry, IsBetween}
 use Rattle.sp_model.specs.Models.{root_of}
-use Rattle.sp_model.specs.Lists.{constraints_hold, found_at}
+use Rattle.sp_model.specs.Models.{constraints_hold}
+use Rattle.sp_list.specs.Lists.{found_at}
 
 -- the points of a box that begin with these values, in lexicographic order
 abbrev pub points_after : Bounds → List ℤ → List (List ℤ)

@@ -3,7 +3,7 @@ use Rattle.std.specs.Prelude.{◌≡◌, List, filter, Option, ℤ}
 use Rattle.sp_model.specs.declared.gaps.Gaps.{Gaps}
 use Rattle.sp_model.specs.declared.parts.ModelParts.{ModelParts}
 use Rattle.sp_model.specs.Models.{IsOptimum}
-use Rattle.sp_model.specs.Lists.{IsListAt}
+use Rattle.sp_list.specs.Lists.{IsListAt}
 use Rattle.sp_engine.specs.Views.{Filter, passes}
 
 -- best is the optimum, none where no point is feasible; xs are the points of the list under the gaps that pass the

@@ -7,7 +7,8 @@ use crate::journals::{Entry, RunEnd};
 use crate::replies::Reply;
 use crate::solving::{Solved, solve};
 use sp_base::WordList;
-use sp_model::{BuildRefusal, Found, Items, Model, NoMemory};
+use sp_list::Found;
+use sp_model::{BuildRefusal, Items, Model, NoMemory, root_is_short};
 use sp_small_lp::NamedModel;
 use std::alloc::{AllocError, Global};
 
@@ -97,6 +98,7 @@ pub fn list(alloc: Global, named: NamedModel) -> Result<Listing, NoMemory>
     requires named { length named.names ≡ length named.parts.lower }
     ensures { IfOk result (IsListing named.names named.parts) }
 {
+    root_is_short();
     let NamedModel { names, parts } = named;
     match Model::build(alloc, parts) {
         Ok(model) => list_model(alloc, names, model),

@@ -3,15 +3,15 @@ ghost use Rattle.std.specs.Prelude.{◌≡◌, ◌^◌, ◌<◌, ◌≤◌, IfOk
 ghost use Rattle.sp_model.specs.declared.parts.ModelParts.{ModelParts};
 ghost use Rattle.sp_model.specs.Boxes.{point_count, room};
 ghost use Rattle.sp_model.specs.Cuts.{cut_of};
-ghost use Rattle.sp_model.specs.Lists.{IsFoundEnough, IsFoundList};
+ghost use Rattle.sp_list.specs.Lists.{IsFoundEnough, IsFoundList};
 ghost use Rattle.sp_engine.specs.LegalRuns.{no_gap, node_limit, room_of};
 
 use crate::journals::RunEnd;
 use crate::walks::walk;
-use sp_model::{
-    BoxOf, Found, Gaps, Model, NoMemory, cut, least_value, list_from, objective_is_small,
-    optimum_is_unique, walk_finds_all,
+use sp_list::{
+    Found, least_value, list_from, list_has_distinct_points, optimum_is_unique, walk_finds_all,
 };
+use sp_model::{BoxOf, Gaps, Model, NoMemory, cut, feasible_is_within, objective_is_small};
 use std::alloc::Global;
 
 /// The most nodes that a tree may have, where no other limit is set.
@@ -75,6 +75,8 @@ fn list_all(alloc: Global, model: &Model, nodes: u32) -> Result<Solved, NoMemory
     let found = walk(alloc, model)?;
     let scale = model.parts().scale;
     walk_finds_all();
+    feasible_is_within();
+    list_has_distinct_points();
     objective_is_small();
     optimum_is_unique();
     let end = RunEnd::Done;

@@ -2,10 +2,11 @@
 ghost use Rattle.std.specs.Prelude.{◌≡◌, ◌<◌, ◌≤◌, ◌++◌, [], ◌∷◌, length, OnOk, IfOk, pos, ◌+ℤ◌};
 ghost use Rattle.sp_model.specs.Boxes.{IsWithin, range_at, width_of};
 ghost use Rattle.sp_model.specs.Models.{root_of};
-ghost use Rattle.sp_model.specs.Lists.{found_points};
+ghost use Rattle.sp_list.specs.Lists.{found_points};
 ghost use Rattle.sp_engine.specs.InnerWalk.{walk_after, IsFront};
 
-use sp_model::{BoxOf, Found, Model, NoMemory, Point, VarId, root_is_short};
+use sp_list::Found;
+use sp_model::{BoxOf, Model, NoMemory, Point, VarId, root_is_short};
 use std::alloc::Global;
 
 /// Puts the point behind what was found, where it is feasible.

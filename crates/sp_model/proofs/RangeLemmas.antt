@@ -1,5 +1,5 @@
 -- A box as the list of its least and the list of its greatest values.
-use Rattle.std.proofs.Common.{◌≡◌, ℕ, zero, suc, ◌+◌, ◌*◌, ◌<◌, List, [], ◌∷◌, length, get_or, set, drop, ℤ, pos, ◌+ℤ◌, ◌<ℤ◌, FitsSigned, w64, refl, sym, ap, ◌∙◌, subst, arith, le_of_suc-le-suc, not-suc-le-zero, drop-cons, add-one, mul_assoc}
+use Rattle.std.proofs.Common.{◌≡◌, ℕ, zero, suc, ◌+◌, ◌*◌, ◌<◌, List, [], ◌∷◌, ◌++◌, length, get_or, set, drop, ℤ, pos, ◌+ℤ◌, ◌<ℤ◌, FitsSigned, w64, refl, sym, ap, ◌∙◌, subst, arith, le_of_suc-le-suc, not-suc-le-zero, drop-cons, add-one, mul_assoc}
 use Rattle.std.proofs.lemmas.Int.{ints}
 use Rattle.sp_model.specs.Boxes.{Bounds, ranges, range_at, width_of, point_count, below, above}
 
@@ -65,3 +65,21 @@ pub next_fits : (ls us : List ℤ) (b : Bounds) (v : ℕ) (at : ℤ) → ranges 
 next_fits ls us b v at e paired h room fits top =
     let below_top : at <ℤ get_or us v (pos 0) = subst (λ (r : ℤ × ℤ). at <ℤ r.1) (sym (range_is ls us b v e paired h)) room in
     omega (arith, ints)
+
+-- ---- another range for one variable, and one more variable
+
+pub set_ranges : (ls us : List ℤ) (v : ℕ) (l u : ℤ) → ranges (set ls v l) (set us v u) ≡ set (ranges ls us) v (l, u)
+set_ranges [] us v l u = refl
+set_ranges (k ∷ ls) [] zero l u = refl
+set_ranges (k ∷ ls) [] (suc v) l u = refl
+set_ranges (k ∷ ls) (w ∷ us) zero l u = refl
+set_ranges (k ∷ ls) (w ∷ us) (suc v) l u = ap (λ b. (k, w) ∷ b) (set_ranges ls us v l u)
+
+pub set_is_ranges : (ls us : List ℤ) (b : Bounds) (v : ℕ) (l u : ℤ) → ranges ls us ≡ b → ranges (set ls v l) (set us v u) ≡ set b v (l, u)
+set_is_ranges ls us b v l u e = set_ranges ls us v l u ∙ ap (λ (c : Bounds). set c v (l, u)) e
+
+pub push_ranges : (ls us : List ℤ) (l u : ℤ) → length us ≡ length ls → ranges (ls ++ l ∷ []) (us ++ u ∷ []) ≡ ranges ls us ++ (l, u) ∷ []
+push_ranges [] [] l u e = refl
+push_ranges [] (w ∷ us) l u e = absurd (omega arith)
+push_ranges (k ∷ ls) [] l u e = absurd (omega arith)
+push_ranges (k ∷ ls) (w ∷ us) l u e = ap (λ b. (k, w) ∷ b) (push_ranges ls us l u (omega arith))

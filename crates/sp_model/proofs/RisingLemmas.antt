@@ -6,8 +6,7 @@ use Rattle.std.specs.List.Sorted.{IsStrictlySortedBy}
 use Rattle.std.specs.Ordering.{ordering_then}
 use Rattle.std.proofs.lemmas.Int.{ints}
 use Rattle.std.proofs.lemmas.Cmp.{tied_itself, int_cmp_total}
-use Rattle.sp_model.specs.Boxes.{Bounds, width_of, numbers_from, points}
-use Rattle.sp_model.specs.Lists.{lex_cmp}
+use Rattle.sp_model.specs.Boxes.{Bounds, lex_cmp, width_of, numbers_from, points}
 
 -- ---- what holds of each element, and strict order, through joined and mapped lists
 

@@ -1,5 +1,8 @@
 -- A box is a list of closed ranges of whole numbers, one for each variable.
 use Rattle.std.specs.Prelude.{◌≡◌, ℕ, zero, suc, ◌+◌, ◌*◌, ◌<◌, Bool, true, false, ◌&&◌, List, [], ◌∷◌, length, map, flat_map, slice_index_or, ℤ, pos, negsuc, ◌+ℤ◌, ◌-ℤ◌, ◌≤ℤ◌, ◌<ℤ◌, int_le}
+use Rattle.std.specs.Cmp.Lexicographic.{slice_cmp}
+use Rattle.std.specs.Ordering.{int_cmp}
+use Rattle.std.specs.declared.cmp.Ordering.{Ordering}
 
 -- the least and the greatest value of each variable
 abbrev pub Bounds : Type 0
@@ -54,6 +57,10 @@ numbers_from least (suc n) = least ∷ numbers_from (least +ℤ pos 1) n
 abbrev pub points : Bounds → List (List ℤ)
 points [] = [] ∷ []
 points (r ∷ rs) = flat_map (λ v. map (λ x. v ∷ x) (points rs)) (numbers_from r.0 (width_of r))
+
+-- lexicographically: by the first value that differs
+abbrev pub lex_cmp : List ℤ → List ℤ → Ordering
+lex_cmp x y = slice_cmp int_cmp x y
 
 -- how many points a box has, as a number of any size
 abbrev pub point_count : Bounds → ℕ

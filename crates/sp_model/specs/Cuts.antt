@@ -1,5 +1,5 @@
 -- The cut: how great the objective of a listed point may be.
-use Rattle.std.specs.Prelude.{ℕ, ◌*◌, ◌/◌, ◌^◌, ◌<◌, ◌≤◌, cond, ℤ, pos, ◌+ℤ◌, ◌-ℤ◌, ◌*ℤ◌, ◌≤ℤ◌, int_le, unsigned_abs}
+use Rattle.std.specs.Prelude.{ℕ, ◌*◌, ◌/◌, ◌^◌, ◌%◌, ◌<◌, ◌≤◌, ◌≢◌, cond, ℤ, pos, ◌+ℤ◌, ◌-ℤ◌, ◌*ℤ◌, ◌≤ℤ◌, int_le, unsigned_abs}
 use Rattle.sp_model.specs.declared.gaps.Gap.{Gap}
 use Rattle.sp_model.specs.declared.gaps.Gap.TheVariants.{Unlimited, Of}
 use Rattle.sp_model.specs.declared.gaps.Gaps.{Gaps}
@@ -21,10 +21,14 @@ part best (Of p s) base = best +ℤ pos (p * base / 10 ^ s)
 abbrev pub cut_of : ℤ → Gaps → ℕ → ℤ
 cut_of best gaps scale = least_of (least_of (part best gaps.abs (10 ^ scale)) (part best gaps.rel (unsigned_abs best))) ceiling
 
--- a gap has at most twelve digits, and at most twelve behind the point
+-- the last digit behind the point isn't 0, where a digit stands there
+abbrev pub IsLeastScale : ℕ → ℕ → Type 0
+IsLeastScale p s = 0 < s → p % 10 ≢ 0
+
+-- a gap has at most twelve digits, at most twelve of them behind the point, and no 0 at the end there
 abbrev pub IsGap : Gap → Type 0
 IsGap Unlimited = Unit {0}
-IsGap (Of p s) = (p < 10 ^ 12) × (s ≤ 12)
+IsGap (Of p s) = (p < 10 ^ 12) × (s ≤ 12) × IsLeastScale p s
 
 -- z is above best by at most the gap p / 10^s, as a multiple of base
 abbrev pub IsWithinGap : ℤ → Gap → ℕ → ℤ → Type 0

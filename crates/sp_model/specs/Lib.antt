@@ -1,6 +1,10 @@
 pub mod Boxes
 pub mod Cuts
-pub mod Lists
+pub mod InnerRounds
+pub mod InnerRules
+pub mod Limits
 pub mod Models
+pub mod Rounds
 pub mod Rules
+pub mod Stated
 pub mod Sums

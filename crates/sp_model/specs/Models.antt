@@ -1,5 +1,6 @@
 -- What a model means: which points are feasible, and what each is worth.
-use Rattle.std.specs.Prelude.{◌≡◌, ℕ, ◌+◌, Bool, true, false, not, ◌&&◌, ◌||◌, ◌==◌, nat_le, List, [], ◌∷◌, map, count_by, All, Option, None, Some, ℤ, pos, ◌+ℤ◌, ◌≤ℤ◌, int_le, IsTrue}
+use Rattle.std.specs.Prelude.{◌≡◌, ℕ, ◌+◌, Bool, true, false, not, ◌&&◌, ◌||◌, ◌==◌, nat_le, List, [], ◌∷◌, map, filter, count_by, All, Option, None, Some, ℤ, pos, ◌+ℤ◌, ◌≤ℤ◌, int_le, IsTrue}
+use Rattle.std.specs.List.{list_all}
 use Rattle.std.specs.Ordering.{int_eq}
 use Rattle.sp_model.specs.declared.parts.Row.{Row}
 use Rattle.sp_model.specs.declared.parts.Indicator.{Indicator}
@@ -7,18 +8,10 @@ use Rattle.sp_model.specs.declared.parts.Sos.{Sos}
 use Rattle.sp_model.specs.declared.parts.SosKind.{SosKind}
 use Rattle.sp_model.specs.declared.parts.SosKind.TheVariants.{One, Two}
 use Rattle.sp_model.specs.declared.parts.ModelParts.{ModelParts}
-use Rattle.sp_model.specs.Boxes.{Bounds, ranges, entry, IsWithin}
+use Rattle.sp_model.specs.Boxes.{Bounds, entry, points}
+use Rattle.sp_model.specs.Rounds.{closed, rounded}
+use Rattle.sp_model.specs.Stated.{KeepsBounds, core_holds, is_at_least, is_at_most, stated_of}
 use Rattle.sp_model.specs.Sums.{sum_at, width_over, side_width}
-
--- the value isn't below the side
-abbrev pub is_at_least : Option ℤ → ℤ → Bool
-is_at_least None v = true
-is_at_least (Some side) v = int_le side v
-
--- the value isn't above the side
-abbrev pub is_at_most : Option ℤ → ℤ → Bool
-is_at_most None v = true
-is_at_most (Some side) v = int_le v side
 
 -- the row's sum lies between its sides
 abbrev pub row_holds : Row → List ℤ → Bool
@@ -51,16 +44,28 @@ set_allows Two vs = nat_le (count_by is_nonzero vs) 1 || ((count_by is_nonzero v
 abbrev pub set_holds : Sos → List ℤ → Bool
 set_holds set x = set_allows set.kind (map (entry x) set.vars)
 
--- the box of the bounds
-abbrev pub root_of : ModelParts → Bounds
-root_of m = ranges m.lower m.upper
+-- the closed box of a model of which no bound is missing after the rounds
+unfoldable pub root_of : ModelParts → Bounds
+root_of m = map closed (rounded m)
 
--- the point lies within the bounds, and each row, indicator and set holds there
+-- the point keeps the stated bounds, each semi-integer variable is 0 or lies within its core, and each row, indicator and set holds
 pub record Feasible (m : ModelParts) (x : List ℤ) : Type 0 where
-  pub within : IsWithin (root_of m) x
+  pub within : KeepsBounds (stated_of m) x
+  pub cores : All (λ c. IsTrue (core_holds c x)) m.semi
   pub rows : All (λ row. IsTrue (row_holds row x)) m.rows
   pub indicators : All (λ i. IsTrue (indicator_holds i x)) m.indicators
   pub sets : All (λ set. IsTrue (set_holds set x)) m.sos
+
+-- each semi-integer variable, row, indicator and set, as a test
+abbrev pub constraints_hold : ModelParts → List ℤ → Bool
+constraints_hold m x =
+    ((list_all (λ c. core_holds c x) m.semi && list_all (λ row. row_holds row x) m.rows)
+    && list_all (λ i. indicator_holds i x) m.indicators)
+    && list_all (λ set. set_holds set x) m.sos
+
+-- the feasible points in lexicographic order: those of the closed box that pass each constraint
+abbrev pub feasible_points : ModelParts → List (List ℤ)
+feasible_points m = filter (constraints_hold m) (points (root_of m))
 
 -- the objective in scaled units, in the minimising direction
 abbrev pub objective : ModelParts → List ℤ → ℤ

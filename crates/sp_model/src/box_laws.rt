@@ -2,8 +2,7 @@
 
 ghost use Rattle.std.specs.Prelude.{◌≡◌, ◌↔◌, ◌⊎◌, ◌+◌, ◌<◌, List, ℤ, ◌≤ℤ◌, ◌<ℤ◌, ℕ, length, Contains, IsTrue};
 ghost use Rattle.std.specs.List.Sorted.{IsStrictlySortedBy};
-ghost use Rattle.sp_model.specs.Boxes.{Bounds, entry, IsWithin, lies_in, points, point_count, below, above, CanSplit};
-ghost use Rattle.sp_model.specs.Lists.{lex_cmp};
+ghost use Rattle.sp_model.specs.Boxes.{Bounds, entry, lex_cmp, IsWithin, lies_in, points, point_count, below, above, CanSplit};
 
 /// A point is in the list of a box's points exactly where it lies within the box.
 pub fn points_are_all_within()

@@ -1,9 +1,12 @@
+//! Boxes of ranges of whole numbers: their points are counted, and they are split.
+
 ghost use Rattle.std.specs.Prelude.{◌≡◌, ◌^◌, ◌<◌, ◌≤◌, ◌↔◌, length, slice_set, IfOk, IsTrue, SomeIff, ◌<ℤ◌, ◌≤ℤ◌};
-ghost use Rattle.sp_model.specs.Boxes.{ranges, range_at, width_of, point_count, below, above, CanSplit};
+ghost use Rattle.sp_model.specs.Boxes.{ranges, range_at, width_of, point_count, below, above, CanSplit, IsBetween, IsWithin};
 
 use crate::ids::VarId;
 use crate::items::Items;
 use crate::memory::NoMemory;
+use crate::points::Point;
 use std::alloc::Global;
 use std::marker::Model;
 
@@ -43,6 +46,23 @@ impl BoxOf {
     {
         let place = var.index();
         (self.lower.as_slice()[place], self.upper.as_slice()[place])
+    }
+
+    /// Gives a variable another range, which may be empty.
+    pub fn set(&mut self, var: VarId, range: &(i64, i64))
+        requires { var < length self.old }
+        ensures { self.new ≡ slice_set self.old var range.now }
+    {
+        let place = var.index();
+        self.lower.set(place, range.0);
+        self.upper.set(place, range.1);
+    }
+
+    /// Whether the point has a value for each variable, and each lies within its range. It takes no memory.
+    pub fn holds(&self, x: &Point) -> bool
+        ensures { IsTrue result ↔ IsWithin self.now x.now }
+    {
+        are_values_within(self.lower.as_slice(), self.upper.as_slice(), x.as_slice())
     }
 
     /// How many values a variable has, at most 2^64.
@@ -119,6 +139,28 @@ impl BoxOf {
         let upper = copy_of(alloc, self.upper.as_slice())?;
         Ok(BoxOf { lower, upper })
     }
+}
+
+fn is_between(least: &i64, greatest: &i64, value: &i64) -> bool
+    ensures { IsTrue result ↔ IsBetween (least.now, greatest.now) value.now }
+{
+    *least <= *value && *value <= *greatest
+}
+
+/// Whether there is a value for each range, and each lies within its range.
+fn are_values_within(lower: &[i64], upper: &[i64], x: &[i64]) -> bool
+    requires { length upper.now ≡ length lower.now }
+    ensures { IsTrue result ↔ IsWithin (ranges lower.now upper.now) x.now }
+{
+    if x.len() != lower.len() {
+        return false;
+    }
+    for at in 0..x.len() {
+        if !is_between(&lower[at], &upper[at], &x[at]) {
+            return false;
+        }
+    }
+    true
 }
 
 /// Whether the number is in the range, and not its greatest.

@@ -1,3 +1,5 @@
+//! Gaps, and the cut that they give.
+
 ghost use Rattle.std.specs.Prelude.{◌≡◌, ◌*◌, ◌/◌, ◌^◌, ◌<◌, ◌≤◌, ◌↔◌, ℤ, ℕ, min, ◌≤ℤ◌, unsigned_abs, IsTrue};
 ghost use Rattle.sp_model.specs.Cuts.{least_of, ceiling, part, cut_of, IsGap};
 
@@ -6,7 +8,7 @@ ghost use Rattle.sp_model.specs.Cuts.{least_of, ceiling, part, cut_of, IsGap};
 pub enum Gap {
     /// As far as it likes.
     Unlimited,
-    /// At most `p / 10^s`, with `p` below 10^12 and `s` at most 12.
+    /// At most `p / 10^s`, with `p` below 10^12, `s` at most 12, and no 0 at the end of `p` unless `s` is 0.
     Of {
         /// The digits of the gap.
         p: u64,
@@ -31,13 +33,13 @@ const CEILING: i128 = 1_000_000_000_000_000_000_000_000_000_000_000_000;
 const FARTHEST: u128 = 2_000_000_000_000_000_000_000_000_000_000_000_000;
 
 impl Gap {
-    /// Whether the gap has at most twelve digits, and at most twelve of them behind the point.
+    /// Whether the gap has at most twelve digits, at most twelve of them behind the point, and no 0 at the end there.
     pub fn is_lawful(&self) -> bool
         ensures { IsTrue result ↔ IsGap self.now }
     {
         match self {
             Gap::Unlimited => true,
-            Gap::Of { p, s } => *p < 1_000_000_000_000 && *s <= 12,
+            Gap::Of { p, s } => *p < 1_000_000_000_000 && *s <= 12 && (*s == 0 || *p % 10 != 0),
         }
     }
 }

@@ -1,3 +1,5 @@
+//! The ids of variables and rows.
+
 use std::marker::Model;
 
 /// A variable, by its place among the declared ones, from 0.

@@ -1,6 +1,8 @@
-ghost use Rattle.std.specs.Prelude.{◌≡◌, [], ◌∷◌, ◌++◌, length, OnOk, OnErr};
+//! Lists of plain data.
 
-use std::alloc::{AllocError, Global};
+ghost use Rattle.std.specs.Prelude.{◌≡◌, ◌<◌, [], ◌∷◌, ◌++◌, length, slice_set, IfErr, OnOk, OnErr};
+
+use std::alloc::{AllocFailed, Global};
 use std::marker::Model;
 
 /// A list of plain data, which contracts see as the list of its items.
@@ -61,12 +63,20 @@ impl<T> Items<T> {
 }
 
 impl<T: Drop> Items<T> {
-    /// Puts the item at the end. After an error the list is as before.
-    pub fn push(&mut self, item: T) -> Result<(), AllocError>
+    /// Puts the item at the end. After an error the list is as before, and the item is given back.
+    pub fn push(&mut self, item: T) -> Result<(), AllocFailed<T>>
         ensures ok { OnOk result (self.new ≡ self.old ++ item ∷ []) }
         ensures err { OnErr result (self.new ≡ self.old) }
+        ensures given_back { IfErr result (λ failed. failed.value ≡ item) }
     {
-        self.items.push(item)?;
-        Ok(())
+        self.items.push(item)
+    }
+
+    /// Puts another item in the place of one.
+    pub fn set(&mut self, place: usize, item: T)
+        requires { place < length self.old }
+        ensures { self.new ≡ slice_set self.old place item }
+    {
+        self.items[place] = item;
     }
 }

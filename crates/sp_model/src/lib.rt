@@ -1,16 +1,17 @@
-//! The model of a pure integer program: its parts, its root box, what is feasible, what an objective
-//! is worth, the cut of a gap, and the list of the kept points.
+//! The model of a pure integer program: its parts, its closed box, what is feasible, what an objective is worth, and the
+//! cut of a gap.
 #![tactic(auto)]
 
+mod bound_rules;
 mod box_laws;
 mod boxes;
+mod closing;
 mod cut_laws;
-mod found;
+mod ends;
 mod gaps;
 mod ids;
 mod items;
-mod list_laws;
-mod lists;
+mod limits;
 mod memory;
 mod model_laws;
 #[cfg(test)]
@@ -19,29 +20,37 @@ mod models;
 mod parts;
 mod points;
 mod refusal;
+#[cfg(test)]
+mod round_tests;
+mod rounds;
 mod rules;
 mod sums;
+mod tails;
+mod terms;
 mod truths;
 
+pub use bound_rules::closed_box;
 pub use box_laws::{
     points_are_all_within, points_are_counted, points_are_lexicographic, split_divides_count,
     split_divides_points, split_is_by_value, within_is_tested,
 };
 pub use boxes::BoxOf;
 pub use cut_laws::{cut_is_between, cut_is_greatest};
-pub use found::Found;
 pub use gaps::{Gap, Gaps, cut};
 pub use ids::{RowId, VarId};
 pub use items::Items;
-pub use list_laws::{
-    best_is_unique, found_list_is_unique, kept_is_tested, list_is_list_of, list_is_unique,
-    list_within_is_list_within_of, list_within_is_unique, optimum_is_optimum_of, optimum_is_unique,
-    parts_join, set_is_enough, sorted_walk_is_list,
+pub use limits::{
+    GREATEST_BOUND, GREATEST_SCALE, GREATEST_WIDTH, MOST_INDICATORS, MOST_ROUNDS, MOST_ROWS,
+    MOST_SETS, MOST_VARIABLES,
 };
-pub use lists::{least_value, list_from, order};
 pub use memory::NoMemory;
-pub use model_laws::{objective_is_small, root_is_short, walk_finds_all};
+pub use model_laws::{
+    closed_box_is_stated, feasible_is_tested, feasible_is_within, feasible_points_are_all,
+    objective_is_small, quotients_are_exact, root_is_near, root_is_short, stated_bounds_stay,
+    widened_holds_core,
+};
 pub use models::Model;
 pub use parts::{Indicator, ModelParts, Row, Sos, SosKind};
 pub use points::Point;
 pub use refusal::BuildRefusal;
+pub use truths::{is_at_least, is_at_most};

@@ -1,3 +1,5 @@
+//! Tests of models against values by hand.
+
 use crate::ids::{RowId, VarId};
 use crate::items::Items;
 use crate::models::Model;
@@ -11,14 +13,28 @@ const WIDEST: i128 = 1_000_000_000_000_000_000_000_000_000_000_000_000;
 
 const FARTHEST: i64 = 1_000_000_000_000_000;
 
-fn numbers(alloc: Global, given: &[i64]) -> Result<Items<i64>, AllocError> {
-    Ok(Items::from_vec(Vec::from_slice(alloc, given)?))
+type Bound = Option<i64>;
+
+fn bounds(alloc: Global, given: &[i64]) -> Result<Items<Bound>, AllocError> {
+    let mut items = Vec::new(alloc);
+    for bound in given {
+        items.push(Some(*bound))?;
+    }
+    Ok(Items::from_vec(items))
 }
 
-fn zeros(alloc: Global, count: u32) -> Result<Items<i64>, AllocError> {
+fn same_bounds(alloc: Global, bound: Bound, count: u32) -> Result<Items<Bound>, AllocError> {
     let mut items = Vec::new(alloc);
     for _ in 0..count {
-        items.push(0)?;
+        items.push(bound)?;
+    }
+    Ok(Items::from_vec(items))
+}
+
+fn cores(alloc: Global, given: &[(u32, i64, i64)]) -> Result<Items<(VarId, i64, i64)>, AllocError> {
+    let mut items = Vec::new(alloc);
+    for core in given {
+        items.push((VarId::new(core.0), core.1, core.2))?;
     }
     Ok(Items::from_vec(items))
 }
@@ -89,8 +105,8 @@ fn sets(alloc: Global, kind: SosKind, given: &[u32], count: u32) -> Result<Items
 /// said; and a set of all three.
 fn plain(alloc: Global, kind: SosKind, on: bool) -> Result<ModelParts, AllocError> {
     let cost = terms(alloc, &[(0, 3), (1, -1), (2, 10)])?;
-    let lower = numbers(alloc, &[0, 0, -2])?;
-    let upper = numbers(alloc, &[1, 5, 2])?;
+    let lower = bounds(alloc, &[0, 0, -2])?;
+    let upper = bounds(alloc, &[1, 5, 2])?;
     let rows = rows(alloc, &[(1, 1), (2, 1)], 1)?;
     let indicators = indicators(alloc, 0, on, &[(1, 1), (2, -1)], 1)?;
     let sos = sets(alloc, kind, &[0, 1, 2], 1)?;
@@ -101,6 +117,7 @@ fn plain(alloc: Global, kind: SosKind, on: bool) -> Result<ModelParts, AllocErro
         cost,
         lower,
         upper,
+        semi: Items::new(alloc),
         rows,
         indicators,
         sos,
@@ -117,6 +134,7 @@ fn empty(alloc: Global) -> Result<ModelParts, AllocError> {
         cost: Items::new(alloc),
         lower: Items::new(alloc),
         upper: Items::new(alloc),
+        semi: Items::new(alloc),
         rows,
         indicators: Items::new(alloc),
         sos,
@@ -129,6 +147,8 @@ enum Change {
     Fixed(u32),
     Lower(&'static [i64]),
     Upper(&'static [i64]),
+    Open(u32),
+    Semi(&'static [(u32, i64, i64)]),
     Scale(u8),
     Constant(i128),
     Cost(&'static [(u32, i128)]),
@@ -140,11 +160,13 @@ enum Change {
 fn put(alloc: Global, parts: &mut ModelParts, change: Change) -> Result<(), AllocError> {
     match change {
         Change::Fixed(count) => {
-            parts.lower = zeros(alloc, count)?;
-            parts.upper = zeros(alloc, count)?;
+            parts.lower = same_bounds(alloc, Some(0), count)?;
+            parts.upper = same_bounds(alloc, Some(0), count)?;
         }
-        Change::Lower(given) => parts.lower = numbers(alloc, given)?,
-        Change::Upper(given) => parts.upper = numbers(alloc, given)?,
+        Change::Lower(given) => parts.lower = bounds(alloc, given)?,
+        Change::Upper(given) => parts.upper = bounds(alloc, given)?,
+        Change::Open(count) => parts.upper = same_bounds(alloc, None, count)?,
+        Change::Semi(given) => parts.semi = cores(alloc, given)?,
         Change::Scale(scale) => parts.scale = scale,
         Change::Constant(constant) => parts.constant = constant,
         Change::Cost(given) => parts.cost = terms(alloc, given)?,
@@ -171,6 +193,7 @@ enum Refused {
     Nothing,
     Variables,
     Bound,
+    Open,
     Objective,
     Row,
     Indicator,
@@ -182,6 +205,7 @@ fn wanted(refused: Refused, at: u32) -> Option<BuildRefusal> {
         Refused::Nothing => None,
         Refused::Variables => Some(BuildRefusal::Variables),
         Refused::Bound => Some(BuildRefusal::Bound(VarId::new(at))),
+        Refused::Open => Some(BuildRefusal::Open(VarId::new(at))),
         Refused::Objective => Some(BuildRefusal::Objective),
         Refused::Row => Some(BuildRefusal::Row(RowId::new(at))),
         Refused::Indicator => Some(BuildRefusal::Indicator(at)),
@@ -201,7 +225,7 @@ fn first_wrong(alloc: Global, cases: &[Case]) -> Result<Option<usize>, AllocErro
     Ok(None)
 }
 
-static CASES: [Case; 36] = [
+static CASES: [Case; 46] = [
     (&[], Refused::Nothing, 0),
     (&[Change::Fixed(2_000)], Refused::Nothing, 0),
     (
@@ -314,6 +338,45 @@ static CASES: [Case; 36] = [
     (&[Change::Set(&[0, 3], 1)], Refused::Sos, 0),
     (&[Change::Set(&[0, 2, 0], 1)], Refused::Sos, 0),
     (&[Change::Set(&[2, 0], 1_001)], Refused::Sos, 1_000),
+    // cores: on either side of 0, over it, an empty one, and what breaks a core's rule, before what is open
+    (
+        &[
+            Change::Semi(&[(0, 1, 1), (1, 3, 5), (2, 1, 0)]),
+            Change::Lower(&[0, 0, 0]),
+            Change::Upper(&[1, 5, 0]),
+        ],
+        Refused::Nothing,
+        0,
+    ),
+    (
+        &[
+            Change::Semi(&[(1, -5, -3), (2, -2, 2)]),
+            Change::Lower(&[0, -5, -2]),
+            Change::Upper(&[1, 0, 2]),
+        ],
+        Refused::Nothing,
+        0,
+    ),
+    (
+        &[Change::Semi(&[(1, 1, 5), (1, 1, 5)]), Change::Open(3)],
+        Refused::Bound,
+        1,
+    ),
+    (&[Change::Semi(&[(2, -2, 2), (1, 1, 5)])], Refused::Bound, 1),
+    (&[Change::Semi(&[(7, 0, 0)])], Refused::Bound, 7),
+    (&[Change::Semi(&[(1, 1, 4)])], Refused::Bound, 1),
+    (&[Change::Semi(&[(1, 5, 1)])], Refused::Bound, 1),
+    (
+        &[Change::Semi(&[(1, 1, FARTHEST + 1)]), Change::Open(3)],
+        Refused::Bound,
+        1,
+    ),
+    (
+        &[Change::Semi(&[(1, 1, FARTHEST)]), Change::Open(3)],
+        Refused::Open,
+        0,
+    ),
+    (&[Change::Open(3), Change::Scale(31)], Refused::Open, 0),
 ];
 
 fn cases() -> &'static [Case] {

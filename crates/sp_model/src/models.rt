@@ -1,9 +1,12 @@
-ghost use Rattle.std.specs.Prelude.{◌≡◌, ◌↔◌, ◌^◌, ◌<◌, ◌≤◌, length, unsigned_abs, IsTrue, IfOk, IfErr, IsOkUnless};
+//! Models: parts that keep all rules, with their closed box.
+
+ghost use Rattle.std.specs.Prelude.{◌≡◌, ◌↔◌, ◌<◌, ◌≤◌, length, unsigned_abs, IsTrue, IfOk, IfErr, IsOkUnless};
 ghost use Rattle.sp_model.specs.Boxes.{IsWithin, range_at};
-ghost use Rattle.sp_model.specs.Lists.{constraints_hold};
-ghost use Rattle.sp_model.specs.Models.{Feasible, objective, root_of};
+ghost use Rattle.sp_model.specs.Limits.{greatest_width};
+ghost use Rattle.sp_model.specs.Models.{Feasible, constraints_hold, objective, root_of};
 ghost use Rattle.sp_model.specs.Rules.{IsLawful, IsFirstFault};
 
+use crate::bound_rules::closed_box;
 use crate::boxes::BoxOf;
 use crate::ids::VarId;
 use crate::items::Items;
@@ -13,25 +16,28 @@ use crate::points::Point;
 use crate::refusal::BuildRefusal;
 use crate::rules::check;
 use crate::sums::sum_from;
-use crate::truths::{are_values_within, do_all_hold};
+use crate::truths::do_all_hold;
 use std::alloc::Global;
 
 /// A model whose parts keep all rules. Contracts see it as its parts.
 #[derive(Debug, Drop)]
 pub struct Model {
     parts: ModelParts,
+    root: BoxOf,
 }
 
 impl std::marker::Model for Model {
+    ghost use Rattle.std.specs.Prelude.{◌≡◌};
     ghost use Rattle.sp_model.specs.declared.parts.ModelParts.{ModelParts};
 
     ghost Value = { ModelParts };
 
+    ghost use Rattle.sp_model.specs.Models.{root_of};
     ghost use Rattle.sp_model.specs.Rules.{IsLawful};
 
     ghost view = { λ m. m.parts };
 
-    ghost invariant = { λ m. IsLawful m.parts };
+    ghost invariant = { λ m. IsLawful m.parts × (m.root ≡ root_of m.parts) };
 }
 
 impl Model {
@@ -41,9 +47,12 @@ impl Model {
         ensures refused { IfErr result (IsFirstFault parts) }
         ensures accepted { IsLawful parts → IsOkUnless result BuildRefusal.NoMemory }
     {
-        match check(alloc, &parts) {
+        match closed_box(alloc, &parts) {
             Err(refusal) => Err(refusal),
-            Ok(()) => Ok(Model { parts }),
+            Ok(root) => match check(alloc, &root, &parts) {
+                Err(refusal) => Err(refusal),
+                Ok(()) => Ok(Model { parts, root }),
+            },
         }
     }
 
@@ -55,39 +64,39 @@ impl Model {
         &self.parts
     }
 
-    /// The least and the greatest value of a variable.
+    /// The least and the greatest value of a variable in the closed box.
     pub fn bounds(&self, var: VarId) -> (i64, i64)
         requires { var < length self.now.lower }
-        ensures { result ≡ range_at (root_of self.now) var }
+        ensures bounds { result ≡ range_at (root_of self.now) var }
+        ensures lawful { IsLawful self.now }
     {
-        let at = var.index();
-        (
-            self.parts.lower.as_slice()[at],
-            self.parts.upper.as_slice()[at],
-        )
+        self.root.range(var)
     }
 
-    /// The box of the bounds.
+    /// A copy of the closed box: the stated bounds and those that the rows close.
     pub fn root(&self, alloc: Global) -> Result<BoxOf, NoMemory>
-        ensures { IfOk result (λ b. b ≡ root_of self.now) }
+        ensures root { IfOk result (λ b. b ≡ root_of self.now) }
+        ensures lawful { IsLawful self.now }
     {
-        let lower = Items::from_vec(Vec::from_slice(alloc, self.parts.lower.as_slice())?);
-        let upper = Items::from_vec(Vec::from_slice(alloc, self.parts.upper.as_slice())?);
+        let lower = Items::from_vec(Vec::from_slice(alloc, self.root.lower.as_slice())?);
+        let upper = Items::from_vec(Vec::from_slice(alloc, self.root.upper.as_slice())?);
         Ok(BoxOf { lower, upper })
     }
 
-    /// Whether the point has a value for each variable, and each lies within its bounds.
+    /// Whether the point has a value for each variable, and each lies within the closed box.
     pub fn is_within(&self, x: &Point) -> bool
-        ensures { IsTrue result ↔ IsWithin (root_of self.now) x.now }
+        ensures within { IsTrue result ↔ IsWithin (root_of self.now) x.now }
+        ensures lawful { IsLawful self.now }
     {
-        are_values_within(&self.parts, x.as_slice())
+        self.root.holds(x)
     }
 
-    /// The objective at a point within the bounds, in scaled units and in the minimising direction.
+    /// The objective at a point within the closed box, in scaled units and in the minimising direction.
     pub fn value(&self, x: &Point) -> i128
         requires { IsWithin (root_of self.now) x.now }
         ensures exact { result ≡ objective self.now x.now }
-        ensures small { unsigned_abs result ≤ 10 ^ 36 }
+        ensures small { unsigned_abs result ≤ greatest_width }
+        ensures lawful { IsLawful self.now }
     {
         sum_from(
             &self.parts.constant,
@@ -96,11 +105,12 @@ impl Model {
         )
     }
 
-    /// Whether each row, indicator and set holds at a point within the bounds.
+    /// Whether each semi-integer variable, row, indicator and set holds at a point within the closed box.
     pub fn feasible(&self, x: &Point) -> bool
         requires { IsWithin (root_of self.now) x.now }
         ensures exact { IsTrue result ↔ Feasible self.now x.now }
         ensures test { result ≡ constraints_hold self.now x.now }
+        ensures lawful { IsLawful self.now }
     {
         do_all_hold(&self.parts, x.as_slice())
     }

@@ -1,3 +1,4 @@
+//! What a model is made of: rows, indicators, sets, and all parts together.
 use crate::ids::VarId;
 use crate::items::Items;
 
@@ -52,10 +53,13 @@ pub struct ModelParts {
     pub constant: i128,
     /// The objective's terms, by rising variable.
     pub cost: Items<(VarId, i128)>,
-    /// The least value of each variable, in declared order.
-    pub lower: Items<i64>,
-    /// The greatest value of each variable, in declared order.
-    pub upper: Items<i64>,
+    /// The stated lower bound of each variable, in declared order; `None` where it is missing.
+    pub lower: Items<Option<i64>>,
+    /// The stated upper bound of each variable, in declared order; `None` where it is missing.
+    pub upper: Items<Option<i64>>,
+    /// The semi-integer variables, by rising variable, each with the lower and the upper bound of its core. Such a
+    /// variable is 0 or lies within its core; its stated bounds are the least range that holds both.
+    pub semi: Items<(VarId, i64, i64)>,
     /// The rows.
     pub rows: Items<Row>,
     /// The indicators.

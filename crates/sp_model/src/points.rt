@@ -1,6 +1,8 @@
-ghost use Rattle.std.specs.Prelude.{◌≡◌, [], ◌∷◌, ◌++◌, take, OnOk, OnErr};
+//! Points: a whole number for each variable.
 
-use std::alloc::{AllocError, Global};
+ghost use Rattle.std.specs.Prelude.{◌≡◌, [], ◌∷◌, ◌++◌, take, IfErr, OnOk, OnErr};
+
+use std::alloc::{AllocFailed, Global};
 use std::marker::Model;
 
 /// A point: a whole number for each variable, in declared order. Contracts see it as the list of these numbers.
@@ -34,13 +36,13 @@ impl Point {
         Point { values }
     }
 
-    /// The number of the next variable. After an error the point is as before.
-    pub fn push(&mut self, value: i64) -> Result<(), AllocError>
+    /// The number of the next variable. After an error the point is as before, and the number is given back.
+    pub fn push(&mut self, value: i64) -> Result<(), AllocFailed<i64>>
         ensures ok { OnOk result (self.new ≡ self.old ++ value ∷ []) }
         ensures err { OnErr result (self.new ≡ self.old) }
+        ensures given_back { IfErr result (λ failed. failed.value ≡ value) }
     {
-        self.values.push(value)?;
-        Ok(())
+        self.values.push(value)
     }
 
     /// Keeps the numbers of the first `count` variables.

@@ -1,3 +1,4 @@
+//! Why parts make no model.
 use crate::ids::{RowId, VarId};
 
 /// Why parts make no model: the first rule that they break, in this order.
@@ -5,8 +6,12 @@ use crate::ids::{RowId, VarId};
 pub enum BuildRefusal {
     /// There are more than 2,000 variables, or not as many upper as lower bounds.
     Variables,
-    /// A bound of this variable has a magnitude above 10^15.
+    /// A stated bound of this variable has a magnitude above 10^15. Or it is the variable of the first core that isn't
+    /// lawful: it isn't known or doesn't rise, a number of its core has a magnitude above 10^15, or a stated bound that
+    /// is there isn't the widened one.
     Bound(VarId),
+    /// A bound of this variable is missing, and the rows don't close it.
+    Open(VarId),
     /// The objective's terms aren't lawful, its width is above 10^36, or its scale is above 30.
     Objective,
     /// The row's terms aren't lawful, its width is above 10^36, or 10,000 rows stand before it.

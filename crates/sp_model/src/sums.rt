@@ -1,10 +1,11 @@
+//! Sums of terms at a point, and what is left of a width beside them.
+
 ghost use Rattle.std.specs.Prelude.{◌≡◌, ◌+◌, ◌-◌, ◌*◌, ◌^◌, ◌<◌, ◌≤◌, All, length, ◌+ℤ◌, ◌*ℤ◌, unsigned_abs, SomeIff};
 ghost use Rattle.sp_model.specs.Boxes.{entry, range_at};
-ghost use Rattle.sp_model.specs.Models.{root_of};
 ghost use Rattle.sp_model.specs.Sums.{sum_at, magnitude, reach, width_over, side_width};
 
+use crate::boxes::BoxOf;
 use crate::ids::VarId;
-use crate::parts::ModelParts;
 
 fn value_at(term: &(VarId, i128), x: &[i64]) -> i128
     requires known { term.now.0 < length x.now }
@@ -28,23 +29,19 @@ pub fn sum_from(start: &i128, terms: &[(VarId, i128)], x: &[i64]) -> i128
     sum
 }
 
-/// The magnitude of a bound.
-pub fn bound_size(bounds: &[i64], at: usize) -> u64
-    requires { at < length bounds.now }
-    ensures { result ≡ unsigned_abs (entry bounds.now at) }
+/// How far a value of a range can be from 0, and at least 1.
+fn reach_of_range(range: &(i64, i64)) -> u128
+    ensures { result ≡ reach range.now }
 {
-    bounds[at].unsigned_abs()
+    u128::from(range.0.unsigned_abs().max(range.1.unsigned_abs()).max(1))
 }
 
 /// How far a value of the variable can be from 0, and at least 1.
-fn reach_of(parts: &ModelParts, var: VarId) -> u128
-    requires known { var < length parts.now.lower }
-    requires paired { length parts.now.upper ≡ length parts.now.lower }
-    ensures { result ≡ reach (range_at (root_of parts.now) var) }
+fn reach_of(root: &BoxOf, var: VarId) -> u128
+    requires { var < length root.now }
+    ensures { result ≡ reach (range_at root.now var) }
 {
-    let least = bound_size(parts.lower.as_slice(), var.index());
-    let greatest = bound_size(parts.upper.as_slice(), var.index());
-    u128::from(least.max(greatest).max(1))
+    reach_of_range(&root.range(var))
 }
 
 /// The magnitude of a number.
@@ -55,16 +52,13 @@ pub fn size_of(value: &i128) -> u128
 }
 
 /// What is left of the room beside the width of the terms, or `None` where they are wider than the room.
-pub fn room_beside(parts: &ModelParts, terms: &[(VarId, i128)], room: u128) -> Option<u128>
-    requires known { All (λ t. t.0 < length parts.now.lower) terms.now }
-    requires paired { length parts.now.upper ≡ length parts.now.lower }
-    ensures { SomeIff result
-        (width_over (root_of parts.now) terms.now ≤ room)
-        (room - width_over (root_of parts.now) terms.now) }
+pub fn room_beside(root: &BoxOf, terms: &[(VarId, i128)], room: u128) -> Option<u128>
+    requires { All (λ t. t.0 < length root.now) terms.now }
+    ensures { SomeIff result (width_over root.now terms.now ≤ room) (room - width_over root.now terms.now) }
 {
     let mut left = room;
     for term in terms {
-        let reach = reach_of(parts, term.0);
+        let reach = reach_of(root, term.0);
         let size = size_of(&term.1);
         if size > left / reach {
             return None;

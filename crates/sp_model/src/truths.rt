@@ -1,17 +1,20 @@
+//! Whether rows, indicators, sets and cores hold at a point.
+
 ghost use Rattle.std.specs.Prelude.{◌≡◌, ◌↔◌, ◌&&◌, ◌<◌, All, length, IsTrue};
 ghost use Rattle.std.specs.List.{list_all};
 ghost use Rattle.std.specs.Ordering.{int_eq};
-ghost use Rattle.sp_model.specs.Boxes.{IsBetween, IsWithin, entry, range_at};
-ghost use Rattle.sp_model.specs.Lists.{constraints_hold};
+ghost use Rattle.sp_model.specs.Boxes.{IsWithin, entry};
 ghost use Rattle.sp_model.specs.Rules.{IsLawful};
+ghost use Rattle.sp_model.specs.Stated.{core_allows, core_holds, is_at_least, is_at_most};
 ghost use Rattle.sp_model.specs.Sums.{AreTermsSafe};
-ghost use Rattle.sp_model.specs.Models.{is_at_least, is_at_most, row_holds, switch_value, indicator_holds, is_nonzero, set_holds, root_of};
+ghost use Rattle.sp_model.specs.Models.{constraints_hold, row_holds, switch_value, indicator_holds, is_nonzero, set_holds, root_of};
 
 use crate::ids::VarId;
 use crate::parts::{Indicator, ModelParts, Row, Sos, SosKind};
 use crate::sums::sum_from;
 
-fn is_at_least(side: &Option<i128>, value: &i128) -> bool
+/// Whether the value isn't below the side; a missing one excludes nothing.
+pub fn is_at_least(side: &Option<i128>, value: &i128) -> bool
     ensures { result ≡ is_at_least side.now value.now }
 {
     match side {
@@ -20,7 +23,8 @@ fn is_at_least(side: &Option<i128>, value: &i128) -> bool
     }
 }
 
-fn is_at_most(side: &Option<i128>, value: &i128) -> bool
+/// Whether the value isn't above the side; a missing one excludes nothing.
+pub fn is_at_most(side: &Option<i128>, value: &i128) -> bool
     ensures { result ≡ is_at_most side.now value.now }
 {
     match side {
@@ -127,12 +131,42 @@ pub fn do_sets_hold(sets: &[Sos], x: &[i64]) -> bool
     true
 }
 
-/// Whether each row, indicator and set of a lawful model holds at a point within the bounds.
+fn does_core_hold(core: &(VarId, i64, i64), x: &[i64]) -> bool
+    requires { core.now.0 < length x.now }
+    ensures { result ≡ core_holds core.now x.now }
+{
+    does_core_allow(core, &x[core.0.index()])
+}
+
+fn does_core_allow(core: &(VarId, i64, i64), value: &i64) -> bool
+    ensures { result ≡ core_allows core.now value.now }
+{
+    *value == 0 || core.1 <= *value && *value <= core.2
+}
+
+/// Whether each semi-integer variable is 0 or lies within its core.
+pub fn do_cores_hold(cores: &[(VarId, i64, i64)], x: &[i64]) -> bool
+    requires { All (λ core. core.0 < length x.now) cores.now }
+    ensures { result ≡ list_all (λ core. core_holds core x.now) cores.now }
+{
+    for core in cores {
+        if !does_core_hold(core, x) {
+            return false;
+        }
+    }
+    true
+}
+
+/// Whether each semi-integer variable, row, indicator and set of a lawful model holds at a point within the closed box.
 pub fn do_all_hold(parts: &ModelParts, x: &[i64]) -> bool
     requires lawful { IsLawful parts.now }
     requires within { IsWithin (root_of parts.now) x.now }
     ensures { result ≡ constraints_hold parts.now x.now }
 {
+    let cores = do_cores_hold(parts.semi.as_slice(), x);
+    if !cores {
+        return false;
+    }
     let rows = do_rows_hold(parts.rows.as_slice(), x);
     if !rows {
         return false;
@@ -142,39 +176,4 @@ pub fn do_all_hold(parts: &ModelParts, x: &[i64]) -> bool
         return false;
     }
     do_sets_hold(parts.sos.as_slice(), x)
-}
-
-fn is_value_within(parts: &ModelParts, at: usize, x: &[i64]) -> bool
-    requires known { at < length parts.now.lower }
-    requires paired { length parts.now.upper ≡ length parts.now.lower }
-    requires long { at < length x.now }
-    ensures { IsTrue result ↔ IsBetween (range_at (root_of parts.now) at) (entry x.now at) }
-{
-    is_between(
-        &parts.lower.as_slice()[at],
-        &parts.upper.as_slice()[at],
-        &x[at],
-    )
-}
-
-fn is_between(least: &i64, greatest: &i64, value: &i64) -> bool
-    ensures { IsTrue result ↔ IsBetween (least.now, greatest.now) value.now }
-{
-    *least <= *value && *value <= *greatest
-}
-
-/// Whether the point has a value for each variable, and each lies within its bounds.
-pub fn are_values_within(parts: &ModelParts, x: &[i64]) -> bool
-    requires { length parts.now.upper ≡ length parts.now.lower }
-    ensures { IsTrue result ↔ IsWithin (root_of parts.now) x.now }
-{
-    if x.len() != parts.lower.len() {
-        return false;
-    }
-    for at in 0..x.len() {
-        if !is_value_within(parts, at, x) {
-            return false;
-        }
-    }
-    true
 }

@@ -15,6 +15,7 @@ use Rattle.sp_base.specs.declared.statuses.Status.{Status}
 use Rattle.sp_base.specs.declared.statuses.Status.TheVariants as status
 use Rattle.sp_base.specs.Writing.{Puts, SinkState}
 use Rattle.sp_model.specs.declared.parts.ModelParts.{ModelParts}
+use Rattle.sp_model.specs.Boxes.{IsWithin}
 use Rattle.sp_model.specs.Models.{root_of, Feasible}
 use Rattle.sp_small_lp.specs.declared.reading.NamedModel.{NamedModel}
 use Rattle.sp_engine.specs.declared.journals.Entry.{Entry}
@@ -108,23 +109,27 @@ listing_notes {names} {m} {l} first entries i e =
     let s = listing_says None [] names m l i in
     record { rest = l.notes.items; noted = e; own = ap (list_all is_own) s.noted ∙ own_notes s.found s.ended s.nodes }
 
+-- what a law of models says: a feasible point lies within the closed box
+abbrev pub FeasibleWithin : ModelParts → Type 0
+FeasibleWithin m = (x : List ℤ) → Feasible m x → IsWithin (root_of m) x
+
 -- each noted point can be printed
-printable_notes : (names : List (List ℕ)) (m : ModelParts) (found : List (List ℤ)) (e : RunEnd) (nodes : ℕ) → length names ≡ length (root_of m)
+printable_notes : (names : List (List ℕ)) (m : ModelParts) → FeasibleWithin m → (found : List (List ℤ)) (e : RunEnd) (nodes : ℕ) → length names ≡ length (root_of m)
     → AllByRecursion (Feasible m) found → AllByRecursion (IsPrintable names m) (run_notes found e nodes)
-printable_notes names m [] e nodes named all = (tt, tt)
-printable_notes names m (x ∷ xs) e nodes named all = ((all.0.within, all.0.within.long ∙ sym named), printable_notes names m xs e nodes named all.1)
+printable_notes names m within [] e nodes named all = (tt, tt)
+printable_notes names m within (x ∷ xs) e nodes named all = ((within x all.0, (within x all.0).long ∙ sym named), printable_notes names m within xs e nodes named all.1)
 
 same_answer : {one other : FetchNote} → entry.Fetched one ∷ [] ≡ entry.Fetched other ∷ [] → other ≡ one
 same_answer e = cc
 
-printable : {names : List (List ℕ)} {m : ModelParts} {l : Listing} (answer : FetchNote) (entries : List Entry)
+printable : {names : List (List ℕ)} {m : ModelParts} {l : Listing} → FeasibleWithin m → (answer : FetchNote) (entries : List Entry)
     → IsListing names m l → entries ≡ entry.Fetched answer ∷ l.notes.items → All (IsPrintable l.names l.model) entries
-printable {names} {m} {l} answer entries i e =
+printable {names} {m} {l} within answer entries i e =
     subst (λ ns. All (IsPrintable ns l.model) entries) (sym i.names_are)
     (subst (λ p. All (IsPrintable names p) entries) (sym i.model_is)
     (subst (All (IsPrintable names m)) (sym (e ∙ ap (λ es. entry.Fetched answer ∷ es) s.noted))
     (All-from_recursion (IsPrintable names m) (entry.Fetched answer ∷ run_notes s.found s.ended s.nodes)
-    (tt, printable_notes names m s.found s.ended s.nodes i.long (recursion_from_All (Feasible m) s.found s.legal.feasible)))))
+    (tt, printable_notes names m within s.found s.ended s.nodes i.long (recursion_from_All (Feasible m) s.found s.legal.feasible)))))
   where
     s : ListsModel (named_by names m) (read_view None [] (named_by names m)) l.notes.items l.reply (after_run (read_view None [] (named_by names m)) i.found i.nodes)
     s = listing_says None [] names m l i
@@ -160,9 +165,9 @@ noted {names} {m} {l} answer entries i e =
     found : (after_run (read_view None [] (named_by names m)) i.found i.nodes).found ≡ s.found
     found = ap (λ (v : View). v.found) s.after_is
 
-pub can_print : {names : List (List ℕ)} {m : ModelParts} {l : Listing} (answer : FetchNote) (entries : List Entry)
+pub can_print : {names : List (List ℕ)} {m : ModelParts} {l : Listing} → FeasibleWithin m → (answer : FetchNote) (entries : List Entry)
     → IsListing names m l → entries ≡ entry.Fetched answer ∷ l.notes.items → CanPrint l.names l.model entries l.reply
-can_print answer entries i e = record { small = i.small; noted = noted answer entries i e; each = printable answer entries i e }
+can_print within answer entries i e = record { small = i.small; noted = noted answer entries i e; each = printable within answer entries i e }
 
 -- the note of a serial is that of its point
 note_of_point : (found : List (List ℤ)) (e : RunEnd) (nodes place : ℕ) → place < length found

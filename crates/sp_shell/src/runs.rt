@@ -18,7 +18,7 @@ use crate::replying::print_reply;
 use crate::wordings::{Wording, bytes_of, wording_of};
 use sp_base::{Buffered, Shelf, Sink, SinkEnd, Source, Status, Text, WordList, write_all};
 use sp_engine::{Entry, FetchNote, Journal, Listing, ReadEnd, Refusal, Reply, list, read};
-use sp_model::{Items, Model};
+use sp_model::{Items, Model, feasible_is_within};
 use sp_small_lp::NamedModel;
 use std::alloc::Global;
 
@@ -139,6 +139,7 @@ fn list_model<K: Sink>(
     ensures ends { (files : Option Files) (name : List ℕ) → IsRead files name bytes named
         → EndsFile K.Sink files name result (inner_of buffer.old) (inner_of buffer.new) }
 {
+    feasible_is_within();
     push_note(&mut entries, Entry::Fetched(FetchNote::Bytes(bytes)));
     let Ok(listing) = list(alloc, named) else {
         return end_with(Status::NoMemory, entries);

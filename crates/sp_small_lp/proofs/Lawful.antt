@@ -1,7 +1,7 @@
 -- The model of a small file keeps the rules of a model.
 use Rattle.std.proofs.Common.{◌≡◌, ℕ, zero, suc, ◌+◌, ◌*◌, ◌^◌, ◌<◌, ◌≤◌, Bool, true, false, not, ◌&&◌, ◌||◌, ◌==◌, cond, List, [], ◌∷◌, ◌++◌, length, map, refl, ap, ◌∙◌, sym, subst, Option, None, Some, arith, length-append}
 use Rattle.std.specs.Prelude.{All, replicate, ℤ, pos, ◌+ℤ◌, neg_ℤ, unsigned_abs, if◌then◌else◌, ◌≢◌}
-use Rattle.std.specs.List.{list_all, list_any, position_or_len}
+use Rattle.std.specs.List.{list_all, list_any, position_or_len, zip}
 use Rattle.std.specs.Str.{bytes_eq}
 use Rattle.std.proofs.lemmas.Bool.{eqb-true}
 use Rattle.std.proofs.lemmas.Int.{ints}
@@ -10,8 +10,11 @@ use Rattle.std.proofs.lemmas.List.Elements.{All-nil, All-cons, All-weaker, All-m
 use Rattle.std.proofs.lemmas.List.Kept.{AllPairs-cons}
 use Rattle.sp_model.specs.Boxes.{Bounds, ranges, range_at}
 use Rattle.sp_model.specs.Sums.{Term, reach, width_over}
-use Rattle.sp_model.specs.Models.{is_nonzero}
-use Rattle.sp_model.specs.Rules.{IsLawful, IsRangeLawful, AreTermsLawful, IsRowLawful}
+use Rattle.sp_model.specs.declared.parts.ModelParts.{ModelParts}
+use Rattle.sp_model.specs.Models.{is_nonzero, root_of}
+use Rattle.sp_model.specs.Rounds.{closed, rounded}
+use Rattle.sp_model.specs.Stated.{OpenBounds, IsClosedRange, stated_of}
+use Rattle.sp_model.specs.Rules.{IsLawful, IsObjectiveLawful, IsRangeLawful, AreTermsLawful, IsRowLawful}
 use Rattle.sp_small_lp.specs.Words.{Word, is_name, is_numeral, value_of}
 use Rattle.sp_small_lp.specs.Names.{is_among}
 use Rattle.sp_small_lp.specs.Added.{signed, coefficient, past, turned}
@@ -26,9 +29,30 @@ use Rattle.sp_small_lp.proofs.Meaning.{names_in, terms_in, names-append}
 abbrev unit_box : ℕ → Bounds
 unit_box n = ranges (replicate n (pos 0)) (replicate n (pos 1))
 
-unit-ranges : (n : ℕ) → All IsRangeLawful (unit_box n)
+-- their stated bounds
+abbrev unit_bounds : ℕ → OpenBounds
+unit_bounds n = zip (replicate n (Some (pos 0))) (replicate n (Some (pos 1)))
+
+unit-ranges : (n : ℕ) → All IsRangeLawful (unit_bounds n)
 unit-ranges zero = All-nil IsRangeLawful
 unit-ranges (suc n) = All-cons IsRangeLawful _ _ (record { least = omega arith; greatest = omega arith }) (unit-ranges n)
+
+unit-closed : (n : ℕ) → All IsClosedRange (unit_bounds n)
+unit-closed zero = All-nil IsClosedRange
+unit-closed (suc n) = All-cons IsClosedRange _ _ (record { lower = refl; upper = refl }) (unit-closed n)
+
+unit-box : (n : ℕ) → map closed (unit_bounds n) ≡ unit_box n
+unit-box zero = refl
+unit-box (suc n) = ap (λ (b : Bounds). (pos 0, pos 1) ∷ b) (unit-box n)
+
+unit-length : (n : ℕ) → length (unit_box n) ≡ n
+unit-length zero = refl
+unit-length (suc n) = ap suc (unit-length n)
+
+-- the closed box of a model of which no bound is missing is the stated one
+pub record StatedClosed : Type 0 where
+  pub rounded : (m : ModelParts) → All IsClosedRange (stated_of m) → rounded m ≡ stated_of m
+  pub root : (m : ModelParts) → All IsClosedRange (stated_of m) → root_of m ≡ map closed (stated_of m)
 
 -- the reach of each variable is 1
 unit-reach : (n j : ℕ) → reach (range_at (unit_box n) j) ≡ 1
@@ -241,30 +265,49 @@ used-parts f =
     both (list_all (is_among (variables f)) (names_in f.objective)) (list_all (is_among (variables f)) (names_in (terms_in (rows_of f.rows))))
     (sym (all-append (is_among (variables f)) (names_in f.objective) (names_in (terms_in (rows_of f.rows)))) ∙ (ap (list_all (is_among (variables f))) (sym (names-append f.objective (terms_in (rows_of f.rows)))) ∙ used-known f))
 
-row-lawful : (f : File) (r : RowText) → IsRowKnown (variables f) r → IsRowLawful (model_of f) (row_of (variables f) r)
+row-lawful : (f : File) (r : RowText) → IsRowKnown (variables f) r → IsRowLawful (unit_box (length (variables f))) (row_of (variables f) r)
 row-lawful f r h =
     let n = length (variables f) in
     record {
-      terms = rw length-replicate (sum-lawful (variables f) false r.terms h.terms);
+      terms = rw (unit-length n) (sum-lawful (variables f) false r.terms h.terms);
       narrow = omega (arith, sum-width (variables f) false r.terms h.terms h.short, signed-abs r.negative (value_of r.side), numeral-below r.side h.side);
     }
 
-rows-lawful : (f : File) (rs : List RowText) → All (IsRowKnown (variables f)) rs → All (λ r. IsRowLawful (model_of f) (row_of (variables f) r)) rs
-rows-lawful f rs h = All-weaker (IsRowKnown (variables f)) (λ r. IsRowLawful (model_of f) (row_of (variables f) r)) (row-lawful f) rs h
+rows-lawful : (f : File) (rs : List RowText) → All (IsRowKnown (variables f)) rs → All (λ r. IsRowLawful (unit_box (length (variables f))) (row_of (variables f) r)) rs
+rows-lawful f rs h = All-weaker (IsRowKnown (variables f)) (λ r. IsRowLawful (unit_box (length (variables f))) (row_of (variables f) r)) (row-lawful f) rs h
 
-pub model-lawful : (f : File) → IsSmallFile f → IsLawful (model_of f)
-model-lawful f h =
+objective-lawful : (f : File) → root_of (model_of f) ≡ unit_box (length (variables f)) → AreKnown (variables f) f.objective → length f.objective ≤ 200000 → IsObjectiveLawful (model_of f)
+objective-lawful f root h short =
+    let n = length (variables f) in
+    record {
+      terms = rw (root, unit-length n) (sum-lawful (variables f) f.maximize f.objective h);
+      narrow = rw root (omega (arith, sum-width (variables f) f.maximize f.objective h short));
+      scaled = omega arith;
+    }
+
+pub model-lawful : (f : File) → StatedClosed → IsSmallFile f → IsLawful (model_of f)
+model-lawful f stated h =
     let n = length (variables f) in
     let parts = used-parts f in
     let objective : AreKnown (variables f) f.objective = record { terms = all-terms-of f.objective h.objective; among = parts.0 } in
     let short : length f.objective ≤ 200000 = omega (arith, h.few_terms, length-append f.objective (terms_in (rows_of f.rows))) in
     let few : length (terms_in (rows_of f.rows)) ≤ 200000 = omega (arith, h.few_terms, length-append f.objective (terms_in (rows_of f.rows))) in
     let known = rows-known (variables f) (rows_of f.rows) h.rows parts.1 few in
+    let root : root_of (model_of f) ≡ unit_box n = stated.root (model_of f) (unit-closed n) ∙ unit-box n in
     record {
-      variables = record { few = rw length-replicate h.few_variables; paired = length-replicate n (pos 1) ∙ sym (length-replicate n (pos 0)) };
-      bounds = unit-ranges n;
-      objective = record { terms = rw length-replicate (sum-lawful (variables f) f.maximize f.objective objective); narrow = omega (arith, sum-width (variables f) f.maximize f.objective objective short); scaled = omega arith };
-      rows = record { few = omega (arith, h.few_rows, length-map (rows_of f.rows) (row_of (variables f))); each = All-map (IsRowLawful (model_of f)) (row_of (variables f)) (rows_of f.rows) (rows-lawful f (rows_of f.rows) known) };
+      box = record {
+        bounds = record {
+          variables = record { few = rw length-replicate h.few_variables; paired = length-replicate n (Some (pos 1)) ∙ sym (length-replicate n (Some (pos 0))) };
+          bounds = unit-ranges n;
+          cores = record { rising = λ i j d l k. absurd (omega arith); each = All-nil _ };
+        };
+        closed = subst (All IsClosedRange) (sym (stated.rounded (model_of f) (unit-closed n))) (unit-closed n);
+      };
+      objective = objective-lawful f root objective short;
+      rows = record {
+        few = omega (arith, h.few_rows, length-map (rows_of f.rows) (row_of (variables f)));
+        each = rw root (All-map (IsRowLawful (unit_box n)) (row_of (variables f)) (rows_of f.rows) (rows-lawful f (rows_of f.rows) known));
+      };
       indicators = record { few = omega arith; each = All-nil _ };
       sets = record { few = omega arith; each = All-nil _ };
     }

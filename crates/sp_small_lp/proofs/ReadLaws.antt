@@ -13,7 +13,7 @@ use Rattle.sp_small_lp.specs.Lines.{lines, words, ends_in_blank}
 use Rattle.sp_small_lp.specs.Reads.{Reads}
 use Rattle.sp_small_lp.specs.Machine.{start, fits, line_from, read_line, read_lines, run, parts_of, GivesReader}
 use Rattle.sp_small_lp.proofs.States.{read_of}
-use Rattle.sp_small_lp.proofs.Lawful.{model-lawful}
+use Rattle.sp_small_lp.proofs.Lawful.{StatedClosed, model-lawful}
 use Rattle.sp_small_lp.proofs.Sound.{Holds, run-back}
 use Rattle.sp_small_lp.proofs.Limits.{run-file}
 use Rattle.sp_small_lp.proofs.Meaning.{read-names, read-parts, small-from_read, readable-from_small, fits-from_small}
@@ -85,5 +85,5 @@ one-reading bytes names others parts more g h =
     (first ∙ (ap (λ (u : Reader). u.names) same ∙ sym second), one ∙ (ap parts_of same ∙ sym two))
 
 -- what is meant keeps the rules of a model
-pub reads-lawful : (bytes : List ℕ) (names : List Word) (parts : ModelParts) → Reads bytes names parts → IsLawful parts × (length names ≡ length parts.lower)
-reads-lawful bytes names parts h = (rw (h.parts_are) (model-lawful h.file h.is_small), rw (h.names_are, h.parts_are) (sym (length-replicate _ _)))
+pub reads-lawful : (bytes : List ℕ) (names : List Word) (parts : ModelParts) → StatedClosed → Reads bytes names parts → IsLawful parts × (length names ≡ length parts.lower)
+reads-lawful bytes names parts stated h = (rw (h.parts_are) (model-lawful h.file stated h.is_small), rw (h.names_are, h.parts_are) (sym (length-replicate _ _)))

@@ -33,12 +33,14 @@ fn emit(
     ensures { OnOk result (sums.new ≡ sums.old ++ turned negate (emitted id sum.now)) }
 {
     if *sum == 0 {
-        Ok(())
-    } else if negate {
-        sums.push((id, -*sum))
-    } else {
-        sums.push((id, *sum))
+        return Ok(());
     }
+    if negate {
+        sums.push((id, -*sum))?;
+        return Ok(());
+    }
+    sums.push((id, *sum))?;
+    Ok(())
 }
 
 /// Neighbours with one variable put together, negated where the flag is set. Those of 0 are left out.

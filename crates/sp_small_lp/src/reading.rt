@@ -1,4 +1,6 @@
-ghost use Rattle.std.specs.Prelude.{◌≡◌, ℕ, List, length, IfOk};
+//! Reading a small file: its lines, and the model that they say.
+
+ghost use Rattle.std.specs.Prelude.{◌≡◌, ℕ, List, length, replicate, IfOk};
 ghost use Rattle.sp_model.specs.declared.parts.ModelParts.{ModelParts};
 ghost use Rattle.sp_model.specs.Rules.{IsLawful};
 ghost use Rattle.sp_small_lp.specs.Words.{Word};
@@ -10,7 +12,7 @@ use crate::cutting::cut;
 use crate::reader::Reader;
 use crate::refusals::LpRefusal;
 use sp_base::WordList;
-use sp_model::{Items, ModelParts};
+use sp_model::{Items, ModelParts, closed_box_is_stated};
 use std::alloc::{AllocError, Global};
 
 /// A model with the names of its variables, in declared order.
@@ -42,6 +44,17 @@ fn read(alloc: Global, bytes: &[u8]) -> Result<Reader, LpRefusal>
     }
 }
 
+/// The same stated bound for so many variables.
+fn bounds_of(alloc: Global, count: usize, bound: &i64) -> Result<Vec<Option<i64>>, AllocError>
+    ensures { IfOk result (λ bounds. bounds.items ≡ replicate count (Some bound.now)) }
+{
+    let mut bounds = Vec::new(alloc);
+    for number in 0..count {
+        bounds.push(Some(*bound))?;
+    }
+    Ok(bounds)
+}
+
 /// The model that was read.
 fn model_of(alloc: Global, reader: Reader) -> Result<NamedModel, AllocError>
     ensures names { IfOk result (λ model. model.names ≡ reader.names) }
@@ -55,8 +68,8 @@ fn model_of(alloc: Global, reader: Reader) -> Result<NamedModel, AllocError>
         ..
     } = reader;
     let count = names.len();
-    let lower = vec![in alloc; 0; count]?;
-    let upper = vec![in alloc; 1; count]?;
+    let lower = bounds_of(alloc, count, &0)?;
+    let upper = bounds_of(alloc, count, &1)?;
     let names = names.into_words()?;
     let parts = ModelParts {
         maximize,
@@ -65,6 +78,7 @@ fn model_of(alloc: Global, reader: Reader) -> Result<NamedModel, AllocError>
         cost,
         lower: Items::from_vec(lower),
         upper: Items::from_vec(upper),
+        semi: Items::new(alloc),
         rows,
         indicators: Items::new(alloc),
         sos: Items::new(alloc),
@@ -80,6 +94,7 @@ pub fn read_lp(alloc: Global, bytes: &[u8]) -> Result<NamedModel, LpRefusal>
     ensures syntax { result ≡ Err LpRefusal.Syntax → (names : List Word) (parts : ModelParts) → ¬ Reads bytes.now names parts }
     ensures lawful { IfOk result (λ r. IsLawful r.parts × (length r.names ≡ length r.parts.lower)) }
 {
+    closed_box_is_stated();
     match read(alloc, bytes) {
         Ok(reader) => match model_of(alloc, reader) {
             Ok(model) => Ok(model),

@@ -100,8 +100,14 @@ fn adds_the_terms_of_each_variable(rt: HostRuntime) -> Result<(), Fail> {
         model.parts.cost.as_slice(),
         [(x, -2), (z, -999_999_998)].as_slice()
     );
-    assert_eq!(rt; model.parts.lower.as_slice(), [0, 0, 0, 0].as_slice());
-    assert_eq!(rt; model.parts.upper.as_slice(), [1, 1, 1, 1].as_slice());
+    assert_eq!(rt;
+        model.parts.lower.as_slice(),
+        [Some(0), Some(0), Some(0), Some(0)].as_slice()
+    );
+    assert_eq!(rt;
+        model.parts.upper.as_slice(),
+        [Some(1), Some(1), Some(1), Some(1)].as_slice()
+    );
     match model.parts.rows.as_slice() {
         [first, second] => {
             check_row(&rt, first, &[(x, 2), (y, 1)], -5);

@@ -2,7 +2,7 @@ use Rattle.std.specs.Int.{w128}
 use Rattle.std.proofs.Common.{◌≡◌, ◌∙◌, sym, ap, subst, arith, rules, FitsSigned, to_z, of_z}
 use Rattle.std.proofs.lemmas.Int.{to_z-of_z, fits_signed_from_abs}
 use Rattle.sp_model.specs.Cuts.{cut_of}
-use Rattle.sp_model.specs.Lists.{IsFoundEnough, IsFoundList}
+use Rattle.sp_list.specs.Lists.{IsFoundEnough, IsFoundList}
 use Rattle.sp_engine.specs.LegalRuns.{no_gap}
 use Rattle.sp_engine.proofs.SolveLemmas.{gaps_are}
 use Rattle.sp_engine.proofs.solving.optimal.Goals as goal

@@ -1,6 +1,6 @@
 use Rattle.std.proofs.Common.{◌≡◌, ◌∷◌, [], ◌++◌, ap, sym, ◌∙◌, true, false}
 use Rattle.std.proofs.lemmas.List.{append-nil}
-use Rattle.sp_model.specs.Lists.{constraints_hold}
+use Rattle.sp_model.specs.Models.{constraints_hold}
 use Rattle.sp_engine.proofs.WalkLemmas.{found_same, same_in_128, whole_kept, whole_left_out}
 use Rattle.sp_engine.proofs.walks.keep.Goals as goal
 

@@ -6,8 +6,8 @@ use Rattle.sp_engine.proofs.walks.walk.Goals as goal
 
 pub walk_from-requires-clause-few : goal.walk_from-requires-clause-few
 walk_from-requires-clause-few c =
-    let few : length (root_of c.args.model.now) ≤ 2000 = c.root_is_short.ensures _ c.parts-parts.ensures.lawful in
-    rw c.in_ok-ranges.ensures few
+    let few : length (root_of c.args.model.now) ≤ 2000 = c.root_is_short.ensures.short _ c.parts-parts.ensures.lawful in
+    rw c.in_ok-ranges.ensures.root few
 
 pub returns : goal.returns
 returns c =

@@ -11,7 +11,7 @@ use Rattle.sp_shell.proofs.runs.list_model.Goals as goal
 pub end_with_list-requires-clause-printable : goal.end_with_list-requires-clause-printable
 end_with_list-requires-clause-printable g c =
     subst (λ ns. CanPrint ns c.in-Ok.listing.model c.append.new.self.items c.in-Ok.listing.reply) (sym c.as_slice.ensures)
-    (can_print (note.Bytes c.args.bytes) c.append.new.self.items c.in-Ok.ensures
+    (can_print (λ x f. c.feasible_is_within.ensures _ x c.requires.lawful f) (note.Bytes c.args.bytes) c.append.new.self.items c.in-Ok.ensures
     (first_noted c.in-Ok.listing.notes.items _ c.in-Ok-append.ensures.items c.push_note.ensures c.requires.empty))
 
 pub returns-clause-notes : goal.returns-clause-notes

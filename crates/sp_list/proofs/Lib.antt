@@ -1,0 +1,13 @@
+pub mod AnswerLemmas
+pub mod ContainsLemmas
+pub mod EnoughLemmas
+pub mod FoundLemmas
+pub mod JoinLemmas
+pub mod KeptLemmas
+pub mod ListLemmas
+pub mod ListOfLemmas
+pub mod MemberLemmas
+pub mod OptimumLemmas
+pub mod OrderLemmas
+pub mod SortedLemmas
+pub mod WalkLemmas

@@ -1,5 +1,0 @@
-use Rattle.sp_model.proofs.ListLemmas.{unique}
-use Rattle.sp_model.proofs.list_laws.list_is_unique.Goals as goal
-
-pub returns : goal.returns
-returns c = unique

@@ -1,5 +1,0 @@
-use Rattle.sp_model.proofs.AnswerLemmas.{one_within}
-use Rattle.sp_model.proofs.list_laws.list_within_is_unique.Goals as goal
-
-pub returns : goal.returns
-returns c = one_within

@@ -1,7 +1,0 @@
-use Rattle.std.proofs.Common.{All, take}
-use Rattle.sp_model.specs.Models.{root_of}
-use Rattle.sp_model.specs.Rules.{IsRangeLawful}
-use Rattle.sp_model.proofs.rules.broken_range.Given as goal
-
-abbrev pub invariant-loop-at : goal.invariant-loop-at
-invariant-loop-at l = All IsRangeLawful (take l.at (root_of l.parts))

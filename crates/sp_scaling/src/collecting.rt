@@ -61,9 +61,11 @@ fn emit(
     if *sum == 0 {
         Ok(())
     } else if negate {
-        sums.push((id, -*sum))
+        sums.push((id, -*sum))?;
+        Ok(())
     } else {
-        sums.push((id, *sum))
+        sums.push((id, *sum))?;
+        Ok(())
     }
 }
 

@@ -43,7 +43,7 @@ term-le-most (negsuc n) v r h = mul-ge n r.0 v h.least
 -- ---- sums at the points of a box
 
 -- also past the last variable, where the range is 0 to 0
-between_at : (b : Bounds) (x : List ℤ) (j : ℕ) → IsWithin b x → IsBetween (range_at b j) (entry x j)
+pub between_at : (b : Bounds) (x : List ℤ) (j : ℕ) → IsWithin b x → IsBetween (range_at b j) (entry x j)
 between_at b x j h = elim (cases_lt j (length b)) [
   | inl l ↦ h.each j l
   | inr g ↦ (

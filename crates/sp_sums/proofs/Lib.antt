@@ -1,6 +1,7 @@
 pub mod AskedLemmas
 pub mod ColumnLemmas
 pub mod FlagLemmas
+pub mod InsideLemmas
 pub mod KeptLemmas
 pub mod LawLemmas
 pub mod MakeLemmas

@@ -59,14 +59,14 @@ summing_stop b ts s p =
     ap₂ span_from least most
 
 -- fit rows are narrow over each box inside the root
+pub row_inside : (root b : Bounds) (row : Row) → IsRowFit root row → IsInside root b → AreTermsNarrow b row.terms
+row_inside root b row f h = record {
+  known = λ n e g. omega (arith, f.narrow.known n e g, h.long);
+  narrow = omega (arith, f.narrow.narrow, width_inside root b h row.terms);
+}
+
 pub narrow_inside : (root b : Bounds) (rows : List Row) → AreRowsFit root rows → IsInside root b → All (λ (row : Row). AreTermsNarrow b row.terms) rows
-narrow_inside root b rows f h = λ k d l. (
-    let row : IsRowFit root (get_or rows k d) = f.each k d l in
-    record {
-      known = λ n e g. omega (arith, row.narrow.known n e g, h.long);
-      narrow = omega (arith, row.narrow.narrow, width_inside root b h (get_or rows k d).terms);
-    }
-    )
+narrow_inside root b rows f h = λ k d l. row_inside root b (get_or rows k d) (f.each k d l) h
 
 -- ---- marks
 

@@ -1,6 +1,6 @@
 -- Ranges and boxes within others.
-use Rattle.std.specs.Prelude.{◌≡◌, ℕ, ◌<◌, length, ℤ, ◌≤ℤ◌}
-use Rattle.sp_model.specs.Boxes.{Bounds, range_at}
+use Rattle.std.specs.Prelude.{◌≡◌, ℕ, ◌<◌, List, length, ℤ, ◌≤ℤ◌}
+use Rattle.sp_model.specs.Boxes.{Bounds, IsWithin, range_at}
 
 -- r isn't empty, and lies within q
 pub record IsPart (q r : ℤ × ℤ) : Type 0 where
@@ -21,3 +21,8 @@ pub record IsFilled (b : Bounds) : Type 0 where
 pub record IsChange (root : Bounds) (j : ℕ) (r : ℤ × ℤ) : Type 0 where
   pub known : j < length root
   pub part : IsPart (range_at root j) r
+
+-- the point is the only one of the box: each range is its value alone
+pub record IsPointBox (b : Bounds) (x : List ℤ) : Type 0 where
+  pub within : IsWithin b x
+  pub single : (j : ℕ) → j < length b → (range_at b j).0 ≡ (range_at b j).1

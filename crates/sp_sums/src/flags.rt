@@ -111,3 +111,52 @@ fn recounted(count: u32, was: bool, is: bool) -> u32
 {
     count - u32::from(was) + u32::from(is)
 }
+
+#[cfg(test)]
+mod tests {
+    use super::*;
+    use std::test::Fail;
+
+    /// A place and a truth that is put there, how many are true then, and the first of them.
+    const STEPS: [(usize, bool, u32, Option<u32>); 6] = [
+        (1, true, 1, Some(1)),
+        (2, true, 2, Some(1)),
+        (1, true, 2, Some(1)),
+        (0, true, 3, Some(0)),
+        (1, false, 2, Some(0)),
+        (0, false, 1, Some(2)),
+    ];
+
+    /// Whether each step leaves the count and the first as stated.
+    fn follows(flags: &mut Flags) -> bool {
+        let mut right = true;
+        for step in &STEPS {
+            if step.0 < flags.len() {
+                flags.put(step.0, step.1);
+            }
+            right &= flags.count() == step.2 && flags.first() == step.3;
+        }
+        right
+    }
+
+    /// Three truths, none of them true.
+    fn three(alloc: Global) -> Result<Flags, NoMemory> {
+        let mut flags = Flags::new(alloc);
+        flags.push(false)?;
+        flags.push(false)?;
+        flags.push(false)?;
+        Ok(flags)
+    }
+
+    /// Whether the flags are as stated after each step.
+    fn starts_and_follows(alloc: Global) -> Result<bool, NoMemory> {
+        let mut flags = three(alloc)?;
+        Ok(follows(&mut flags))
+    }
+
+    #[test]
+    fn flags_follow(rt: HostRuntime) -> Result<(), Fail> {
+        assert!(rt; matches!(starts_and_follows(rt.alloc()), Ok(true)));
+        Ok(())
+    }
+}

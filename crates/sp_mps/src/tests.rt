@@ -57,7 +57,7 @@ fn answer_to(alloc: Global, file: &[u8]) -> (u8, u32) {
 }
 
 /// Whole files, each with its answer.
-const FILES: [(&[u8], u8, u32); 49] = [
+const FILES: [(&[u8], u8, u32); 50] = [
     (b"", SYNTAX, 1),
     (b"\n", SYNTAX, 1),
     (b"\n\n\n", SYNTAX, 3),
@@ -126,6 +126,11 @@ const FILES: [(&[u8], u8, u32); 49] = [
         6,
     ),
     (b"ROWS\n N C\nCOLUMNS\n M 'MARKER' 'SOSORG'\n", SYNTAX, 4),
+    (
+        b"ROWS\n N C\nCOLUMNS\n M 'MARKER' 'INTORG'\n X C -1\n M 'MARKER' 'INTEND'\nBOUNDS\n LO B X 2\n SC B X 4\nENDATA",
+        READ,
+        0,
+    ),
     (
         b"ROWS\n E 'MARKER'\nCOLUMNS\n X 'MARKER' 1 'MARKER' 2\nENDATA\n",
         READ,
@@ -343,6 +348,51 @@ const LINES: [(Place, &[u8], u8, u32); 135] = [
 fn answers_lines_of_each_section(rt: HostRuntime) -> Result<(), Fail> {
     for (place, text, number, line) in LINES {
         let file = joined(rt.alloc(), lines_before(place), text, lines_behind(place))?;
+        assert_eq!(rt; answer_to(rt.alloc(), file.as_slice()), (number, line));
+    }
+    Ok(())
+}
+
+/// The worked file with a text before a line of it, counted from 1; the line stays or is left out.
+fn changed(alloc: Global, place: u32, text: &[u8], stays: bool) -> Result<Vec<u8>, Fail> {
+    let mut file = Vec::new(alloc);
+    let mut line: u32 = 1;
+    let mut begins = true;
+    for byte in DEMO {
+        if begins && line == place {
+            add(&mut file, text)?;
+        }
+        if stays || line != place {
+            file.push(*byte)?;
+        }
+        begins = *byte == b'\n';
+        if begins {
+            line = line.saturating_add(1);
+        }
+    }
+    Ok(file)
+}
+
+/// Texts before a line of the worked file, whether that line stays, and the answer.
+const CHANGES: [(u32, &[u8], bool, u8, u32); 12] = [
+    (14, b"", false, SYNTAX, 13),
+    (14, b"SOS\n", true, UNSUPPORTED, 14),
+    (12, b" RHS2 R1 1\n", true, UNSUPPORTED, 12),
+    (12, b" RHS R1 1e75\n", true, READ, 0),
+    (12, b" RHS COST 1e75\n", true, WIDE, 12),
+    (9, b" M2 'MARKER' 'INTORG'\n", false, SYNTAX, 9),
+    (7, b" X COST 1e-31 R1 1\n", false, WIDE, 7),
+    (7, b" X R2 1e-31\n", false, UNKNOWN, 7),
+    (5, b" E  R1\n", true, DUPLICATE, 5),
+    (5, b" X  R1\n", true, SYNTAX, 5),
+    (2, b"OBJSENSE\n MAX\n", true, READ, 0),
+    (1, b"*\n\n", true, READ, 0),
+];
+
+#[test]
+fn answers_changes_of_a_file(rt: HostRuntime) -> Result<(), Fail> {
+    for (place, text, stays, number, line) in CHANGES {
+        let file = changed(rt.alloc(), place, text, stays)?;
         assert_eq!(rt; answer_to(rt.alloc(), file.as_slice()), (number, line));
     }
     Ok(())

@@ -1,0 +1,10 @@
+pub mod Bounds
+pub mod Faults
+pub mod InnerLowering
+pub mod InnerSets
+pub mod Lowering
+pub mod Objectives
+pub mod Rows
+pub mod Sets
+pub mod Sides
+pub mod Variables

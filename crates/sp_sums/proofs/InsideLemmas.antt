@@ -5,7 +5,7 @@ use Rattle.std.proofs.lemmas.List.{get_or_past}
 use Rattle.std.proofs.lemmas.Int.{ints}
 use Rattle.sp_model.specs.declared.parts.Row.{Row}
 use Rattle.sp_model.specs.Boxes.{Bounds, range_at, entry, IsBetween}
-use Rattle.sp_model.specs.Models.{is_at_least, is_at_most}
+use Rattle.sp_model.specs.Stated.{is_at_least, is_at_most}
 use Rattle.sp_model.specs.Sums.{Term, sum_at}
 use Rattle.sp_sums.specs.Extremes.{term_least, term_most, least_over, most_over, span_of, is_low, is_high}
 use Rattle.sp_sums.specs.Ranges.{IsInside, IsPart, IsPointBox}

@@ -7,7 +7,8 @@ use Rattle.std.proofs.lemmas.Int.{ints}
 use lib.IntN.{suc_ℤ-*ℤ, pred_ℤ-*ℤ, zero-*ℤ}
 use Rattle.sp_model.specs.declared.parts.Row.{Row}
 use Rattle.sp_model.specs.Boxes.{Bounds, range_at, entry, IsBetween, IsWithin}
-use Rattle.sp_model.specs.Models.{is_at_least, is_at_most, row_holds}
+use Rattle.sp_model.specs.Models.{row_holds}
+use Rattle.sp_model.specs.Stated.{is_at_least, is_at_most}
 use Rattle.sp_model.specs.Sums.{Term, sum_at}
 use Rattle.sp_sums.proofs.MemberLemmas.{Contains-cons_cases, Contains-here, Contains-later, Contains-none}
 use Rattle.sp_sums.specs.Columns.{Entry, entries_of, column_from, column_of, IsColumn}

@@ -2,7 +2,7 @@
 use Rattle.std.specs.Prelude.{◌≡◌, ◌<◌, ◌^◌, ◌≤◌, Bool, not, ◌||◌, cond, List, [], ◌∷◌, length, All, Option, Some, ℤ, pos, ◌+ℤ◌, ◌*ℤ◌, ◌≤ℤ◌, ◌<ℤ◌, int_le}
 use Rattle.sp_model.specs.declared.parts.Row.{Row}
 use Rattle.sp_model.specs.Boxes.{Bounds, range_at, IsWithin}
-use Rattle.sp_model.specs.Models.{is_at_least, is_at_most}
+use Rattle.sp_model.specs.Stated.{is_at_least, is_at_most}
 use Rattle.sp_model.specs.Sums.{Term, sum_at, width_over}
 use Rattle.sp_sums.specs.declared.spans.Span.{Span}
 

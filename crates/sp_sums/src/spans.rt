@@ -1,11 +1,10 @@
 //! The least and the greatest sum of a row, and how they change.
 
 ghost use Rattle.std.specs.Prelude.{◌≡◌, ◌||◌, ◌*◌, ◌^◌, ◌≤◌, not, ◌+ℤ◌, ◌-ℤ◌, ◌*ℤ◌, unsigned_abs};
-ghost use Rattle.sp_model.specs.Models.{is_at_least, is_at_most};
 ghost use Rattle.sp_sums.specs.Extremes.{term_least, term_most, is_low, is_high, is_broken};
 ghost use Rattle.sp_sums.specs.Inner.{moved, with_term, IsTermSmall, IsSpanSmall};
 
-use sp_model::Row;
+use sp_model::{Row, is_at_least, is_at_most};
 
 /// The least and the greatest sum of a row over a box.
 #[derive(Clone, Copy, PartialEq, Eq, Debug)]
@@ -112,24 +111,6 @@ pub fn moved(span: &Span, coefficient: &i128, from: &(i64, i64), to: &(i64, i64)
         let least = raised(&span.least, coefficient, &from.1, &to.1);
         let most = raised(&span.most, coefficient, &from.0, &to.0);
         Span { least, most }
-    }
-}
-
-fn is_at_least(side: &Option<i128>, value: &i128) -> bool
-    ensures { result ≡ is_at_least side.now value.now }
-{
-    match side {
-        None => true,
-        Some(least) => *least <= *value,
-    }
-}
-
-fn is_at_most(side: &Option<i128>, value: &i128) -> bool
-    ensures { result ≡ is_at_most side.now value.now }
-{
-    match side {
-        None => true,
-        Some(greatest) => *value <= *greatest,
     }
 }
 

@@ -7,7 +7,7 @@ use Rattle.std.specs.Int.{int_min, int_max}
 use Rattle.std.specs.Int.RustNames.{unsigned_abs}
 use lib.IntN.{suc_ℤ-*ℤ, pred_ℤ-*ℤ, zero-*ℤ}
 use Rattle.sp_model.specs.Boxes.{Bounds, range_at, entry, natural, IsBetween, IsWithin}
-use Rattle.sp_model.specs.Models.{is_at_least, is_at_most}
+use Rattle.sp_model.specs.Stated.{is_at_least, is_at_most}
 use Rattle.sp_model.specs.Sums.{Term}
 use Rattle.sp_filter.specs.declared.kinds.Filter.{Filter}
 use Rattle.sp_filter.specs.declared.kinds.Filter.TheVariants.{Range, Diversity}

@@ -116,9 +116,9 @@ nearest_reached : (r : ℤ × ℤ) (f : ℤ) → r.0 ≤ℤ r.1 → HasDistance 
 nearest_reached r f h = elim (cases_le f r.0) [
   | inl low ↦ (r.0, at_first r h, near_low r f h low)
   | inr over ↦ (elim (cases_le r.1 f) [
-      | inl high ↦ (r.1, at_last r h, near_high r f h high)
-      | inr under ↦ (f, record { least = omega (arith, ints); greatest = omega (arith, ints) }, near_inside r f (omega (arith, ints)) (omega (arith, ints)))
-      ])
+    | inl high ↦ (r.1, at_last r h, near_high r f h high)
+    | inr under ↦ (f, record { least = omega (arith, ints); greatest = omega (arith, ints) }, near_inside r f (omega (arith, ints)) (omega (arith, ints)))
+  ])
 ]
 
 farthest_reached : (r : ℤ × ℤ) (f : ℤ) → r.0 ≤ℤ r.1 → HasDistance r f (farthest r f)

@@ -4,7 +4,8 @@ use Rattle.std.specs.Int.{int_min, int_max}
 use Rattle.sp_model.specs.declared.parts.ModelParts.{ModelParts}
 use Rattle.sp_model.specs.Boxes.{Bounds, range_at, entry, natural}
 use Rattle.sp_model.specs.Sums.{Term, reach, side_width}
-use Rattle.sp_model.specs.Models.{is_at_least, is_at_most, root_of}
+use Rattle.sp_model.specs.Models.{root_of}
+use Rattle.sp_model.specs.Stated.{is_at_least, is_at_most}
 use Rattle.sp_filter.specs.declared.kinds.Filter.{Filter}
 use Rattle.sp_filter.specs.declared.kinds.Filter.TheVariants.{Range, Diversity}
 

@@ -2,7 +2,7 @@
 
 ghost use Rattle.std.specs.Prelude.{◌≡◌, ◌↔◌, ◌-◌, ◌^◌, ◌≤◌, List, length, ℤ, false, not, IsTrue, SomeIff};
 ghost use Rattle.sp_model.specs.Boxes.{IsWithin};
-ghost use Rattle.sp_model.specs.Models.{is_at_least, is_at_most, root_of};
+ghost use Rattle.sp_model.specs.Models.{root_of};
 ghost use Rattle.sp_filter.specs.Filters.{filter_sum, least_allowed, most_allowed, is_passed, least_sum, most_sum, is_closed, AreKnown, AreWeightsLawful, IsNarrow, Fits, box_at, terms_width, filter_width};
 
 use crate::sums::{
@@ -12,7 +12,7 @@ use crate::widths::{
     GREATEST_WIDTH, are_known, are_weighted_known, are_weights_lawful, is_roomy, room_beside_bound,
     room_beside_distances, room_beside_multiples,
 };
-use sp_model::{BoxOf, Items, Model, Point, VarId};
+use sp_model::{BoxOf, Items, Model, Point, VarId, is_at_least, is_at_most};
 
 /// A filter: a sum that has to lie between two bounds. A bound that is `None` is none. Coefficients, weights and bounds are
 /// multiplied by `10^scale`.
@@ -40,26 +40,6 @@ pub enum Filter {
         /// The power of ten by which the weights and the bounds are multiplied, at most 30.
         scale: u8,
     },
-}
-
-/// Whether the number isn't below the bound.
-fn is_at_least(bound: &Option<i128>, value: &i128) -> bool
-    ensures { result ≡ is_at_least bound.now value.now }
-{
-    match bound {
-        None => true,
-        Some(bound) => *bound <= *value,
-    }
-}
-
-/// Whether the number isn't above the bound.
-fn is_at_most(bound: &Option<i128>, value: &i128) -> bool
-    ensures { result ≡ is_at_most bound.now value.now }
-{
-    match bound {
-        None => true,
-        Some(bound) => *value <= *bound,
-    }
 }
 
 impl Filter {

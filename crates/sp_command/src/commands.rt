@@ -9,7 +9,7 @@ use sp_pool::Rule;
 pub type RangeTerm = (Text, Decimal);
 
 /// A term of a diversity filter: the name of a variable, its weight, and the value that it is compared with.
-pub type DiversityTerm = (Text, Decimal, i128);
+pub type DiversityTerm = (Text, Decimal, i64);
 
 /// A setting with its value.
 #[derive(Clone, Copy, Debug)]

@@ -33,7 +33,7 @@ fn split_last(text: &[u8]) -> Option<(&[u8], &[u8])>
 }
 
 /// The whole number with a minus or without.
-fn reference(text: &[u8]) -> Option<i128>
+fn reference(text: &[u8]) -> Option<i64>
     ensures value { result ≡ reference_of text.now }
     ensures small { IfSome result (λ z. unsigned_abs z ≤ 10 ^ 15) }
 {
@@ -43,17 +43,17 @@ fn reference(text: &[u8]) -> Option<i128>
     if text[0] == b'-' {
         return match whole_number(0, GREATEST, tail(text, 1)) {
             None => None,
-            Some(n) => Some(-i128::from(n)),
+            Some(n) => Some(-(n as i64)),
         };
     }
     match whole_number(0, GREATEST, text) {
         None => None,
-        Some(n) => Some(i128::from(n)),
+        Some(n) => Some(n as i64),
     }
 }
 
 /// The term that the word is: the name, its weight and its reference value.
-fn distance(word: &[u8]) -> Option<(&[u8], Decimal, i128)>
+fn distance(word: &[u8]) -> Option<(&[u8], Decimal, i64)>
     ensures value { MatchOption result (distance_of word.now ≡ None) (λ term. distance_of word.now ≡ Some (term.0.now, term.1, term.2)) }
     ensures small { IfSome result (λ term. unsigned_abs term.2 ≤ 10 ^ 15) }
 {
@@ -83,7 +83,7 @@ fn put_term(
     terms: &mut Items<DiversityTerm>,
     name: &[u8],
     weight: &Decimal,
-    reference: &i128,
+    reference: &i64,
 ) -> Result<(), CommandRefusal>
     ensures ok { OnOk result (terms.new ≡ terms.old ++ (name.now, weight.now, reference.now) ∷ []) }
     ensures err { IfErr result (λ why. why ≡ CommandRefusal.NoMemory) }

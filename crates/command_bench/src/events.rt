@@ -98,11 +98,7 @@ fn offers_of(alloc: Global, numbers: &[i128]) -> Result<Vec<Offered>>
     let mut offers = Vec::new(alloc);
     let mut place = 0;
     while numbers.len().saturating_sub(place) >= 3 {
-        offers.push(offer_of(
-            numbers[place],
-            numbers[place + 1],
-            numbers[place + 2],
-        )?)?;
+        offers.push(offer_of(numbers[place], numbers[place + 1], numbers[place + 2])?)?;
         place += 3;
     }
     Ok(offers)
@@ -195,10 +191,8 @@ fn tell_event(alloc: Global, pool: &mut Pool, word: &[u8], numbers: &[i128]) -> 
 /// Offers points to a full pool under Worst, and answers the sum of the serials that it holds in the end.
 pub fn fill(alloc: Global, members: u32, offers: u32) -> Result<u64> {
     let mut pool = Pool::new(alloc, 0);
-    pool.apply(PoolEvent::Capacity(members))
-        .map_err(no_memory)?;
-    pool.apply(PoolEvent::Rule(Rule::Worst))
-        .map_err(no_memory)?;
+    pool.apply(PoolEvent::Capacity(members)).map_err(no_memory)?;
+    pool.apply(PoolEvent::Rule(Rule::Worst)).map_err(no_memory)?;
     for round in 0..u64::from(members) + u64::from(offers) {
         // Values in a scattered order, each lower than most before it.
         let value = 1_000_003_u64

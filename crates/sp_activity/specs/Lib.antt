@@ -1,6 +1,0 @@
-pub mod Kept
-pub mod Order
-pub mod Reasons
-pub mod Stages
-pub mod Uses
-pub mod Within

@@ -1,21 +1,6 @@
 //! Why a box of a model holds no feasible point.
 #![tactic(auto)]
 
-mod broken;
-mod closing;
-mod holding;
-mod kept;
-mod making;
-mod ranges;
 mod reasons;
-mod roots;
-mod settling;
-mod stages;
-mod uses;
 
-pub use broken::Broken;
-pub use closing::closed;
-pub use holding::holds;
-pub use kept::Kept;
 pub use reasons::Reason;
-pub use uses::{ModelUses, Uses};

@@ -146,7 +146,7 @@ fn takes_lines_apart(rt: HostRuntime) {
 /// be huge, as one that may not, and as 0 or 1. `None` is no fault.
 const VALUES: [(
     &[u8],
-    Option<i128>,
+    Option<i32>,
     Option<FaultKind>,
     Option<FaultKind>,
     Option<FaultKind>,
@@ -214,11 +214,16 @@ fn reads_values(rt: HostRuntime) {
     );
 }
 
+/// The decimal of a whole number.
+fn whole_number(p: i32) -> Decimal {
+    Decimal { p: p as i128, s: 0 }
+}
+
 /// The word is the number if that is told, or gives the fault.
-fn check_values(rt: &impl Abort, word: &[u8], whole: Option<i128>, value: Option<FaultKind>) {
+fn check_values(rt: &impl Abort, word: &[u8], whole: Option<i32>, value: Option<FaultKind>) {
     let read = value_of(word);
     match whole {
         None => assert_eq!(rt; read.err(), value),
-        Some(p) => assert_eq!(rt; read.ok(), Some(Numeral::Exact(Decimal { p, s: 0 }))),
+        Some(p) => assert_eq!(rt; read.ok(), Some(Numeral::Exact(whole_number(p)))),
     }
 }

@@ -1,0 +1,4 @@
+pub mod Order
+pub mod Reasons
+pub mod Stages
+pub mod Within

@@ -418,54 +418,65 @@ fn answers_each_front_of_a_file(rt: HostRuntime) {
     }
 }
 
-/// The number 0.
-const ZERO: Option<Numeral> = Some(Numeral::Exact(Decimal { p: 0, s: 0 }));
-/// The number 1.
-const ONE: Option<Numeral> = Some(Numeral::Exact(Decimal { p: 1, s: 0 }));
-/// The number 2.
-const TWO: Option<Numeral> = Some(Numeral::Exact(Decimal { p: 2, s: 0 }));
-/// Minus one half.
-const MINUS_HALF: Option<Numeral> = Some(Numeral::Exact(Decimal { p: -5, s: 1 }));
-/// A huge number above 0.
-const ABOVE: Option<Numeral> = Some(Numeral::Huge { negative: false });
-/// A huge number below 0.
-const BELOW: Option<Numeral> = Some(Numeral::Huge { negative: true });
+/// The number that the text is, if it is one.
+fn numeral(text: &[u8]) -> Option<Numeral> {
+    match Numeral::read(text) {
+        Ok(value) => Some(value),
+        Err(_) => None,
+    }
+}
 
-/// Lines of BOUNDS, and what they make of a column: its kind, its bounds, and whether it is semi-integer.
-const BOUNDS: [(&[u8], VarKind, Option<Numeral>, Option<Numeral>, bool); 29] = [
-    (b" UP X 2", VarKind::Continuous, None, TWO, false),
-    (b" UP B X 2", VarKind::Continuous, None, TWO, false),
-    (b" UP X 1e30", VarKind::Continuous, None, ABOVE, false),
-    (b" LO X -.5", VarKind::Continuous, MINUS_HALF, None, false),
-    (b" LO B X -1e75", VarKind::Continuous, BELOW, None, false),
-    (b" FX X 2", VarKind::Continuous, TWO, TWO, false),
-    (b" FX B X 2", VarKind::Continuous, TWO, TWO, false),
-    (b" LI X 2", VarKind::Integer, TWO, None, false),
-    (b" LI B X 2", VarKind::Integer, TWO, None, false),
-    (b" UI X 2", VarKind::Integer, None, TWO, false),
-    (b" UI B X 2", VarKind::Integer, None, TWO, false),
-    (b" SC X 2", VarKind::Continuous, None, TWO, true),
-    (b" SC B X 2", VarKind::Continuous, None, TWO, true),
-    (b" FR X", VarKind::Continuous, BELOW, ABOVE, false),
-    (b" FR B X", VarKind::Continuous, BELOW, ABOVE, false),
-    (b" FR B X 2", VarKind::Continuous, BELOW, ABOVE, false),
-    (b" MI X", VarKind::Continuous, BELOW, None, false),
-    (b" MI B X", VarKind::Continuous, BELOW, None, false),
-    (b" MI B X 2", VarKind::Continuous, BELOW, None, false),
-    (b" PL X", VarKind::Continuous, None, ABOVE, false),
-    (b" PL B X", VarKind::Continuous, None, ABOVE, false),
-    (b" PL B X 2", VarKind::Continuous, None, ABOVE, false),
-    (b" BV X", VarKind::Integer, ZERO, ONE, false),
-    (b" BV B X", VarKind::Integer, ZERO, ONE, false),
-    (b" BV B X 2", VarKind::Integer, ZERO, ONE, false),
-    (b" UP X 2\n UP X 1", VarKind::Continuous, None, ONE, false),
-    (b" BV X\n LO X 1", VarKind::Integer, ONE, ONE, false),
-    (b" FX X 2\n FR X", VarKind::Continuous, BELOW, ABOVE, false),
+/// The number that the text is, if it is one and isn't huge.
+fn decimal(text: &[u8]) -> Option<Decimal> {
+    let read = Numeral::read(text);
+    match &read {
+        Ok(Numeral::Exact(value)) => Some(*value),
+        _ => None,
+    }
+}
+
+/// Lines of BOUNDS, and what they make of a column: its kind, its bounds or nothing, and whether it is
+/// semi-integer.
+const BOUNDS: [(&[u8], VarKind, &[u8], &[u8], bool); 29] = [
+    (b" UP X 2", VarKind::Continuous, b"", b"2", false),
+    (b" UP B X 2", VarKind::Continuous, b"", b"2", false),
+    (b" UP X 1e30", VarKind::Continuous, b"", b"inf", false),
+    (b" LO X -.5", VarKind::Continuous, b"-.5", b"", false),
+    (b" LO B X -1e75", VarKind::Continuous, b"-inf", b"", false),
+    (b" FX X 2", VarKind::Continuous, b"2", b"2", false),
+    (b" FX B X 2", VarKind::Continuous, b"2", b"2", false),
+    (b" LI X 2", VarKind::Integer, b"2", b"", false),
+    (b" LI B X 2", VarKind::Integer, b"2", b"", false),
+    (b" UI X 2", VarKind::Integer, b"", b"2", false),
+    (b" UI B X 2", VarKind::Integer, b"", b"2", false),
+    (b" SC X 2", VarKind::Continuous, b"", b"2", true),
+    (b" SC B X 2", VarKind::Continuous, b"", b"2", true),
+    (b" FR X", VarKind::Continuous, b"-inf", b"inf", false),
+    (b" FR B X", VarKind::Continuous, b"-inf", b"inf", false),
+    (b" FR B X 2", VarKind::Continuous, b"-inf", b"inf", false),
+    (b" MI X", VarKind::Continuous, b"-inf", b"", false),
+    (b" MI B X", VarKind::Continuous, b"-inf", b"", false),
+    (b" MI B X 2", VarKind::Continuous, b"-inf", b"", false),
+    (b" PL X", VarKind::Continuous, b"", b"inf", false),
+    (b" PL B X", VarKind::Continuous, b"", b"inf", false),
+    (b" PL B X 2", VarKind::Continuous, b"", b"inf", false),
+    (b" BV X", VarKind::Integer, b"0", b"1", false),
+    (b" BV B X", VarKind::Integer, b"0", b"1", false),
+    (b" BV B X 2", VarKind::Integer, b"0", b"1", false),
+    (b" UP X 2\n UP X 1", VarKind::Continuous, b"", b"1", false),
+    (b" BV X\n LO X 1", VarKind::Integer, b"1", b"1", false),
+    (
+        b" FX X 2\n FR X",
+        VarKind::Continuous,
+        b"-inf",
+        b"inf",
+        false,
+    ),
     (
         b" LO X 1\n SC X 2\n LI X 2",
         VarKind::Integer,
-        TWO,
-        TWO,
+        b"2",
+        b"2",
         true,
     ),
 ];
@@ -495,8 +506,8 @@ fn bounds_columns(rt: HostRuntime) -> Result<(), Fail> {
         let file = joined(rt.alloc(), lines_before(Place::Bounds), lines, b"\nENDATA")?;
         let wanted = DraftVar {
             kind,
-            lower,
-            upper,
+            lower: numeral(lower),
+            upper: numeral(upper),
             semi,
         };
         assert_eq!(rt; first_var(rt.alloc(), file.as_slice()), Some(wanted));
@@ -508,51 +519,43 @@ fn bounds_columns(rt: HostRuntime) -> Result<(), Fail> {
 const ROWS: &[u8] =
     b"ROWS\n N C\n L A\n G B\n E D\n N F\nCOLUMNS\n X A 1 B 1\n X D 1 F 1\n X C 1\nRHS\n";
 
-/// A side of 0.
-const NONE: Numeral = Numeral::Exact(Decimal { p: 0, s: 0 });
-/// A side of 3.
-const THREE: Numeral = Numeral::Exact(Decimal { p: 3, s: 0 });
-/// A side without end.
-const ENDLESS: Numeral = Numeral::Huge { negative: false };
-
-/// Lines behind RHS, the place of a row in the draft, and what holds it: its kind, its right-hand side, and its range.
-const SIDES: [(&[u8], usize, u8, Numeral, Option<i128>); 18] = [
-    (b"", 0, b'L', NONE, None),
-    (b"", 1, b'G', NONE, None),
-    (b"", 2, b'E', NONE, None),
-    (b" A 3 B 1", 0, b'L', THREE, None),
-    (b" S A 1 B 3", 1, b'G', THREE, None),
-    (b" D 3", 2, b'E', THREE, None),
-    (b" A 1 A 2\n A 3", 0, b'L', THREE, None),
-    (b" B 1e30", 1, b'G', ENDLESS, None),
-    (b" F 1e30\n C 2", 0, b'L', NONE, None),
-    (b" A 3\nRANGES\n A 2", 0, b'L', THREE, Some(2)),
-    (b" A 3\nRANGES\n A -2", 0, b'L', THREE, Some(-2)),
-    (b" B 3\nRANGES\n S B -2", 1, b'G', THREE, Some(-2)),
-    (b" B 3\nRANGES\n S A 1 B 2", 1, b'G', THREE, Some(2)),
-    (b"RANGES\n D 2 F 1", 2, b'E', NONE, Some(2)),
-    (b"RANGES\n D -2", 2, b'E', NONE, Some(-2)),
-    (b"RANGES\n D 0", 2, b'E', NONE, Some(0)),
-    (b" D 3\nRANGES\n D 1 D 2\n D -1", 2, b'E', THREE, Some(-1)),
-    (b"RANGES\n C 1 F 2", 0, b'L', NONE, None),
+/// Lines behind RHS, the place of a row in the draft, and what holds it: its kind, its right-hand side, and its range or nothing.
+const SIDES: [(&[u8], usize, u8, &[u8], &[u8]); 18] = [
+    (b"", 0, b'L', b"0", b""),
+    (b"", 1, b'G', b"0", b""),
+    (b"", 2, b'E', b"0", b""),
+    (b" A 3 B 1", 0, b'L', b"3", b""),
+    (b" S A 1 B 3", 1, b'G', b"3", b""),
+    (b" D 3", 2, b'E', b"3", b""),
+    (b" A 1 A 2\n A 3", 0, b'L', b"3", b""),
+    (b" B 1e30", 1, b'G', b"inf", b""),
+    (b" F 1e30\n C 2", 0, b'L', b"0", b""),
+    (b" A 3\nRANGES\n A 2", 0, b'L', b"3", b"2"),
+    (b" A 3\nRANGES\n A -2", 0, b'L', b"3", b"-2"),
+    (b" B 3\nRANGES\n S B -2", 1, b'G', b"3", b"-2"),
+    (b" B 3\nRANGES\n S A 1 B 2", 1, b'G', b"3", b"2"),
+    (b"RANGES\n D 2 F 1", 2, b'E', b"0", b"2"),
+    (b"RANGES\n D -2", 2, b'E', b"0", b"-2"),
+    (b"RANGES\n D 0", 2, b'E', b"0", b"0"),
+    (b" D 3\nRANGES\n D 1 D 2\n D -1", 2, b'E', b"3", b"-1"),
+    (b"RANGES\n C 1 F 2", 0, b'L', b"0", b""),
 ];
 
-/// What a row of the kind is held to.
-fn sides(kind: u8, rhs: Numeral, range: Option<i128>) -> Sides {
+/// What a row of the kind is held to, if the right-hand side is a number; the range may be none.
+fn sides(kind: u8, rhs: &[u8], range: &[u8]) -> Option<Sides> {
     let sense = match kind {
         b'L' => Sense::Less,
         b'G' => Sense::Greater,
         _ => Sense::Equal,
     };
-    match (range, sense) {
-        (Some(p), sense) => Sides::Ranged {
-            sense,
-            rhs,
-            range: Decimal { p, s: 0 },
+    match numeral(rhs) {
+        None => None,
+        Some(rhs) => match (decimal(range), sense) {
+            (Some(range), sense) => Some(Sides::Ranged { sense, rhs, range }),
+            (None, Sense::Less) => Some(Sides::Le(rhs)),
+            (None, Sense::Greater) => Some(Sides::Ge(rhs)),
+            (None, Sense::Equal) => Some(Sides::Eq(rhs)),
         },
-        (None, Sense::Less) => Sides::Le(rhs),
-        (None, Sense::Greater) => Sides::Ge(rhs),
-        (None, Sense::Equal) => Sides::Eq(rhs),
     }
 }
 
@@ -576,7 +579,7 @@ fn holds_rows(rt: HostRuntime) -> Result<(), Fail> {
         let file = joined(rt.alloc(), ROWS, lines, b"\nENDATA")?;
         assert_eq!(rt;
             sides_at(rt.alloc(), file.as_slice(), place),
-            Some(sides(kind, rhs, range))
+            sides(kind, rhs, range)
         );
     }
     Ok(())
@@ -587,84 +590,81 @@ const MIXED: &[u8] =
     b"OBJSENSE\n MAX\nROWS\n N C\n L A\n G B\n E D\n N F\nCOLUMNS\n M 'MARKER' 'INTORG'\n Y D 1 F 2\n \
 M 'MARKER' 'INTEND'\n Z B 1 C .5\n Y C 2 A 1\nRHS\n C -3\nINDICATORS\n IF D Z 1\n IF A Y 0\nENDATA\n";
 
-/// A variable and its whole coefficient.
-fn term(var: u32, p: i128) -> (VarId, Decimal) {
-    (VarId::new(var), Decimal { p, s: 0 })
-}
-
-#[test]
-fn drafts_the_worked_file(rt: HostRuntime) -> Result<(), Fail> {
-    match draft_of(rt.alloc(), DEMO) {
-        None => assert_eq!(rt; 0, 1),
-        Some(draft) => {
-            let column = DraftVar {
-                kind: VarKind::Integer,
-                lower: ZERO,
-                upper: ONE,
-                semi: false,
-            };
-            assert_eq!(rt; draft.maximize, false);
-            assert_eq!(rt; draft.vars.as_slice(), [column, column].as_slice());
-            assert_eq!(rt; draft.cost.as_slice(), [term(0, 1), term(1, 1)].as_slice());
-            assert_eq!(rt;
-                draft.constants.as_slice(),
-                [Decimal { p: -5, s: 0 }].as_slice()
-            );
-            check_row(
-                &rt,
-                draft.rows.as_slice(),
-                &[term(0, 1), term(1, -1)],
-                sides(b'E', NONE, Some(-1)),
-            );
-        }
+/// The terms are these: a variable by its place, and a coefficient.
+fn check_terms(rt: &impl Abort, terms: &[(VarId, Decimal)], wanted: &[(usize, &[u8])]) {
+    assert_eq!(rt; terms.len(), wanted.len());
+    for (term, (place, text)) in terms.iter().zip(wanted.iter()) {
+        assert_eq!(rt; term.0.index(), *place);
+        assert_eq!(rt; Some(term.1), decimal(text));
     }
-    Ok(())
 }
 
 /// There is one row, with these terms and sides.
-fn check_row(rt: &impl Abort, rows: &[DraftRow], terms: &[(VarId, Decimal)], sides: Sides) {
-    match rows {
-        [row] => {
-            assert_eq!(rt; row.terms.as_slice(), terms);
-            assert_eq!(rt; row.sides, sides);
-        }
-        _ => assert_eq!(rt; rows.len(), 1),
+fn check_row(rt: &impl Abort, rows: &[DraftRow], terms: &[(usize, &[u8])], sides: Option<Sides>) {
+    assert_eq!(rt; rows.len(), 1);
+    for row in rows {
+        check_terms(rt, row.terms.as_slice(), terms);
+        assert_eq!(rt; Some(row.sides), sides);
     }
 }
 
 #[test]
-fn drafts_directions_and_indicators(rt: HostRuntime) -> Result<(), Fail> {
-    match draft_of(rt.alloc(), MIXED) {
+fn drafts_the_worked_file(rt: HostRuntime) {
+    match draft_of(rt.alloc(), DEMO) {
         None => assert_eq!(rt; 0, 1),
         Some(draft) => {
-            let half = (VarId::new(1), Decimal { p: 5, s: 1 });
-            assert_eq!(rt; draft.maximize, true);
-            assert_eq!(rt; draft.cost.as_slice(), [half, term(0, 2)].as_slice());
-            assert_eq!(rt;
-                draft.constants.as_slice(),
-                [Decimal { p: 3, s: 0 }].as_slice()
-            );
+            assert!(rt; !draft.maximize);
+            assert_eq!(rt; draft.vars.as_slice().len(), 2);
+            for var in draft.vars.as_slice() {
+                assert_eq!(rt; var.kind, VarKind::Integer);
+                assert_eq!(rt; (var.lower, var.upper), (numeral(b"0"), numeral(b"1")));
+            }
+            check_terms(&rt, draft.cost.as_slice(), &[(0, b"1"), (1, b"1")]);
+            check_constant(&rt, draft.constants.as_slice(), b"-5");
             check_row(
                 &rt,
                 draft.rows.as_slice(),
-                &[term(1, 1)],
-                sides(b'G', NONE, None),
+                &[(0, b"1"), (1, b"-1")],
+                sides(b'E', b"0", b"-1"),
+            );
+        }
+    }
+}
+
+/// There is one constant, which is this number.
+fn check_constant(rt: &impl Abort, constants: &[Decimal], text: &[u8]) {
+    assert_eq!(rt; constants.len(), 1);
+    assert_eq!(rt; constants.first().copied(), decimal(text));
+}
+
+#[test]
+fn drafts_directions_and_indicators(rt: HostRuntime) {
+    match draft_of(rt.alloc(), MIXED) {
+        None => assert_eq!(rt; 0, 1),
+        Some(draft) => {
+            assert!(rt; draft.maximize);
+            check_terms(&rt, draft.cost.as_slice(), &[(1, b".5"), (0, b"2")]);
+            check_constant(&rt, draft.constants.as_slice(), b"3");
+            check_row(
+                &rt,
+                draft.rows.as_slice(),
+                &[(1, b"1")],
+                sides(b'G', b"0", b""),
             );
             check_indicators(&rt, draft.indicators.as_slice());
         }
     }
-    Ok(())
 }
 
-/// The first row of kind E holds where Z is 1, and the one of kind L where Y is 0.
+/// The row of kind E holds where Z is 1, and the one of kind L where Y is 0.
 fn check_indicators(rt: &impl Abort, indicators: &[DraftIndicator]) {
     match indicators {
         [first, second] => {
-            assert_eq!(rt; (first.var, first.on), (VarId::new(1), true));
-            assert_eq!(rt; first.row.sides, sides(b'E', NONE, None));
-            assert_eq!(rt; (second.var, second.on), (VarId::new(0), false));
-            assert_eq!(rt; second.row.terms.as_slice(), [term(0, 1)].as_slice());
-            assert_eq!(rt; second.row.sides, sides(b'L', NONE, None));
+            assert_eq!(rt; (first.var.index(), first.on), (1, true));
+            assert_eq!(rt; Some(first.row.sides), sides(b'E', b"0", b""));
+            assert_eq!(rt; (second.var.index(), second.on), (0, false));
+            check_terms(rt, second.row.terms.as_slice(), &[(0, b"1")]);
+            assert_eq!(rt; Some(second.row.sides), sides(b'L', b"0", b""));
         }
         _ => assert_eq!(rt; indicators.len(), 2),
     }

@@ -1,0 +1,4 @@
+pub mod FormedLemmas
+pub mod FoundLemmas
+pub mod PlaceLemmas
+pub mod WalkLemmas

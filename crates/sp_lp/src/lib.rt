@@ -1,0 +1,21 @@
+//! LP files: what each says, or why and in which line it is none.
+#![tactic(auto)]
+
+mod cursor;
+mod fault_kinds;
+#[cfg(test)]
+mod file_tests;
+mod headings;
+mod lp_files;
+mod names;
+mod numbers;
+mod questions;
+mod reader;
+mod relations;
+mod saying;
+mod signs;
+mod stops;
+mod values;
+mod walking;
+
+pub use lp_files::read_lp;

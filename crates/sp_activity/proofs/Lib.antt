@@ -1,6 +1,10 @@
 pub mod InsideLemmas
+pub mod KeptLemmas
 pub mod NamedLemmas
 pub mod OrderLemmas
 pub mod PairLemmas
+pub mod PointLemmas
 pub mod ReadyLemmas
+pub mod StepLemmas
 pub mod TruthLemmas
+pub mod UsesLemmas

@@ -1,5 +1,6 @@
 -- What a lawful model gives to the search for a reason.
-use Rattle.std.proofs.Common.{◌≡◌, ◌⊎◌, inl, inr, nat_eq, ◌||◌, ℕ, suc, ◌+◌, ◌<◌, ◌≤◌, Bool, true, false, List, [], ◌∷◌, length, get_or, All, AllPairs, refl, arith}
+use Rattle.std.proofs.Common.{◌≡◌, ◌⊎◌, inl, inr, nat_eq, ◌||◌, ℕ, zero, suc, ◌+◌, ◌<◌, ◌≤◌, Bool, true, false, List, [], ◌∷◌, length, map, get_or, All, AllPairs, refl, arith, pos}
+use Rattle.std.proofs.lemmas.Int.{ints}
 use Rattle.std.specs.Cmp.{unsigned_Decides}
 use Rattle.std.specs.List.{list_any}
 use Rattle.std.proofs.lemmas.Bool.Decides.{nat_tests}
@@ -13,10 +14,14 @@ use Rattle.sp_model.specs.Boxes.{Bounds, range_at}
 use Rattle.sp_model.specs.Models.{root_of}
 use Rattle.sp_model.specs.Rules.{AreCoresLawful, IsLawful, IsRowLawful, IsSetLawful}
 use Rattle.sp_model.specs.Stated.{Core, stated_of}
+use Rattle.sp_model.specs.Sums.{Term}
 use Rattle.sp_sums.specs.Extremes.{AreTermsNarrow}
 use Rattle.sp_sums.specs.Ranges.{IsFilled, IsInside}
 use Rattle.sp_sums.specs.Rows.{AreRowsFit, IsRowFit}
+use Rattle.std.proofs.lemmas.List.{get_or-map, length-map}
+use Rattle.sp_activity.specs.Reasons.{bare_indicator}
 use Rattle.sp_activity.specs.Stages.{IsReady}
+use Rattle.sp_activity.specs.Uses.{core_vars, gate_vars}
 use Rattle.sp_activity.specs.Within.{IsCovered, IsUnder}
 
 pub inside_root : (root b : Bounds) → IsUnder root b → IsFilled b → IsInside root b
@@ -117,3 +122,36 @@ ready_of m b n f filled h = record {
   cores = λ k d l. omega (arith, f.cores k d l, h.long);
   rising = f.rising;
 }
+
+-- a box without an empty range lies in itself
+pub inside_itself : (b : Bounds) → IsFilled b → IsInside b b
+inside_itself b f = record { long = refl; each = λ j l. record { lower = omega (arith, ints); filled = f.each j l; upper = omega (arith, ints) } }
+
+-- the indicators' rows
+pub gate_rows_fit : (m : ModelParts) → IsFit m → AreRowsFit (root_of m) (map (λ (i : Indicator). i.row) m.indicators)
+gate_rows_fit m f = record {
+  few = omega (arith, f.gate_few, length-map m.indicators (λ (i : Indicator). i.row));
+  each = λ k d l. gate_at m f k d l;
+}
+  where
+    gate_at : (m : ModelParts) → IsFit m → (k : ℕ) (d : Row) → k < length (map (λ (i : Indicator). i.row) m.indicators) → IsRowFit (root_of m) (get_or (map (λ (i : Indicator). i.row) m.indicators) k d)
+    gate_at m f k d l =
+        let inside : k < length m.indicators = omega (arith, length-map m.indicators (λ (i : Indicator). i.row)) in
+        rw (get_or-map (λ (i : Indicator). i.row) m.indicators k bare_indicator d inside) (f.gates k bare_indicator inside)
+
+-- the variables of an indicator, a core
+pub gate_vars_known : (m : ModelParts) → IsFit m → All (λ (i : Indicator). All (λ (v : ℕ). v < length (root_of m)) (gate_vars i)) m.indicators
+gate_vars_known m f = λ k d l. vars_known (length (root_of m)) (get_or m.indicators k d) (f.switches k d l) (f.gates k d l).narrow.known
+  where
+    vars_known : (n : ℕ) (i : Indicator) → i.var < n → All (λ (t : Term). t.0 < n) i.row.terms → All (λ (v : ℕ). v < n) (gate_vars i)
+    vars_known n i s h zero e g = s
+    vars_known n i s h (suc p) e g =
+        let inside : p < length i.row.terms = omega (arith, length-map i.row.terms (λ (t : Term). t.0)) in
+        rw (get_or-map (λ (t : Term). t.0) i.row.terms p (0, pos 0) e inside) (h p (0, pos 0) inside)
+
+pub core_vars_known : (m : ModelParts) → IsFit m → All (λ (c : Core). All (λ (v : ℕ). v < length (root_of m)) (core_vars c)) m.semi
+core_vars_known m f = λ k d l. only_known (length (root_of m)) (get_or m.semi k d) (f.cores k d l)
+  where
+    only_known : (n : ℕ) (c : Core) → c.0 < n → All (λ (v : ℕ). v < n) (core_vars c)
+    only_known n c s zero e g = s
+    only_known n c s (suc p) e g = absurd (omega arith)

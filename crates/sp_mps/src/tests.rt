@@ -204,9 +204,9 @@ fn joined(alloc: Global, before: &[u8], text: &[u8], behind: &[u8]) -> Result<Ve
     Ok(file)
 }
 
-/// Lines of a section, the number of the refusal of the last one, and its line in the file. Each section has lines of
-/// one to seven fields.
-const LINES: [(Place, &[u8], u8, u32); 135] = [
+/// Lines of the rows and of the columns, the number of the refusal of the last one, and its line in the file. Each section has
+/// lines of one to seven fields.
+const DECLARATION_LINES: [(Place, &[u8], u8, u32); 50] = [
     (Place::Rows, b" L", SYNTAX, 6),
     (Place::Rows, b" L Q", READ, 0),
     (Place::Rows, b" L Q 1", SYNTAX, 6),
@@ -257,6 +257,20 @@ const LINES: [(Place, &[u8], u8, u32); 135] = [
     (Place::Columns, b" X @ 1", UNKNOWN, 6),
     (Place::Columns, b" $ R 1", READ, 0),
     (Place::Columns, b" X* R 1\n X* C 1", READ, 0),
+];
+
+#[test]
+fn answers_lines_of_rows_and_columns(rt: HostRuntime) -> Result<(), Fail> {
+    for (place, text, number, line) in DECLARATION_LINES {
+        let file = joined(rt.alloc(), lines_before(place), text, lines_behind(place))?;
+        assert_eq!(rt; answer_to(rt.alloc(), file.as_slice()), (number, line));
+    }
+    Ok(())
+}
+
+/// Lines of the right-hand sides and of the ranges, the number of the refusal of the last one, and its line in the file. Each section has
+/// lines of one to seven fields.
+const SIDE_LINES: [(Place, &[u8], u8, u32); 40] = [
     (Place::Rhs, b" R", SYNTAX, 7),
     (Place::Rhs, b" R 1", READ, 0),
     (Place::Rhs, b" B R 1", READ, 0),
@@ -297,6 +311,20 @@ const LINES: [(Place, &[u8], u8, u32); 135] = [
     (Place::Ranges, b" # R 1", SYNTAX, 7),
     (Place::Ranges, b" B R 1\n # Q 1", SYNTAX, 8),
     (Place::Ranges, b" B R 1\n D Q x", UNSUPPORTED, 8),
+];
+
+#[test]
+fn answers_lines_of_sides_and_ranges(rt: HostRuntime) -> Result<(), Fail> {
+    for (place, text, number, line) in SIDE_LINES {
+        let file = joined(rt.alloc(), lines_before(place), text, lines_behind(place))?;
+        assert_eq!(rt; answer_to(rt.alloc(), file.as_slice()), (number, line));
+    }
+    Ok(())
+}
+
+/// Lines of the bounds and of the indicators, the number of the refusal of the last one, and its line in the file. Each section has
+/// lines of one to seven fields.
+const BOUND_LINES: [(Place, &[u8], u8, u32); 45] = [
     (Place::Bounds, b" UP", SYNTAX, 7),
     (Place::Bounds, b" UP X", SYNTAX, 7),
     (Place::Bounds, b" UP X 1", READ, 0),
@@ -345,8 +373,8 @@ const LINES: [(Place, &[u8], u8, u32); 135] = [
 ];
 
 #[test]
-fn answers_lines_of_each_section(rt: HostRuntime) -> Result<(), Fail> {
-    for (place, text, number, line) in LINES {
+fn answers_lines_of_bounds_and_indicators(rt: HostRuntime) -> Result<(), Fail> {
+    for (place, text, number, line) in BOUND_LINES {
         let file = joined(rt.alloc(), lines_before(place), text, lines_behind(place))?;
         assert_eq!(rt; answer_to(rt.alloc(), file.as_slice()), (number, line));
     }

@@ -12,7 +12,7 @@ use Rattle.sp_model.specs.declared.parts.Indicator.{Indicator}
 use Rattle.sp_model.specs.declared.parts.Sos.{Sos}
 use Rattle.sp_model.specs.declared.parts.SosKind.{SosKind}
 use Rattle.sp_model.specs.declared.parts.SosKind.TheVariants.{One, Two}
-use Rattle.sp_model.specs.Boxes.{Bounds, range_at, entry, IsBetween, IsWithin}
+use Rattle.sp_model.specs.Boxes.{Bounds, range_at, coordinate, IsBetween, IsWithin}
 use Rattle.sp_model.specs.declared.parts.ModelParts.{ModelParts}
 use Rattle.sp_model.specs.Models.{constraints_hold, has_neighbours, is_nonzero, row_holds, indicator_holds, set_allows, set_holds, switch_value}
 use Rattle.sp_model.specs.Stated.{Core, core_allows, core_holds, is_at_least, is_at_most}
@@ -34,9 +34,9 @@ pub record IsOne (r : ℤ × ℤ) (v : ℤ) : Type 0 where
   pub lower : r.0 ≡ v
   pub upper : r.1 ≡ v
 
-pub one_at : (b : Bounds) (x : List ℤ) (j : ℕ) → IsPointBox b x → IsOne (range_at b j) (entry x j)
+pub one_at : (b : Bounds) (x : List ℤ) (j : ℕ) → IsPointBox b x → IsOne (range_at b j) (coordinate x j)
 one_at b x j h = elim (cases_lt j (length b)) [
-  | inl l ↦ (let v : IsBetween (range_at b j) (entry x j) = h.within.each j l in let e = h.single j l in record { lower = omega (arith, ints, v.least, v.greatest); upper = omega (arith, ints, v.least, v.greatest) })
+  | inl l ↦ (let v : IsBetween (range_at b j) (coordinate x j) = h.within.each j l in let e = h.single j l in record { lower = omega (arith, ints, v.least, v.greatest); upper = omega (arith, ints, v.least, v.greatest) })
   | inr g ↦ (
       let g2 : length x ≤ j = omega (arith, h.within.long) in
       rw (get_or_past b j (pos 0, pos 0) g, get_or_past x j (pos 0) g2) record { lower = refl; upper = refl }
@@ -69,16 +69,16 @@ indicator_by false h f = refl
 
 pub indicator_at_point : (b : Bounds) (i : Indicator) (x : List ℤ) → SumsMeet → IsPointBox b x → (is_asked b i ≡ true → (is_low i.row (span_of b i.row) ≡ false) × (is_high i.row (span_of b i.row) ≡ false)) → indicator_holds i x ≡ true
 indicator_at_point b i x s h f =
-    indicator_by (int_eq (entry x i.var) (switch_value i.on)) (row_holds i.row x)
-    (λ e. (let two = f (asked_at_point (range_at b i.var) (entry x i.var) (switch_value i.on) (one_at b x i.var h) e) in row_at_point b i.row x s h two.0 two.1))
+    indicator_by (int_eq (coordinate x i.var) (switch_value i.on)) (row_holds i.row x)
+    (λ e. (let two = f (asked_at_point (range_at b i.var) (coordinate x i.var) (switch_value i.on) (one_at b x i.var h) e) in row_at_point b i.row x s h two.0 two.1))
 
 -- ---- cores
 
 core_by : (r : ℤ × ℤ) (c : Core) (v : ℤ) → r.0 ≡ v → r.1 ≡ v → is_missed r c ≡ false → core_allows c v ≡ true
 core_by r c v l u e = grind (arith, ints)
 
-pub core_at_point : (b : Bounds) (c : Core) (x : List ℤ) → IsPointBox b x → is_missed (range_at b c.0) c ≡ false → core_allows c (entry x c.0) ≡ true
-core_at_point b c x h e = let one : IsOne (range_at b c.0) (entry x c.0) = one_at b x c.0 h in core_by (range_at b c.0) c (entry x c.0) one.lower one.upper e
+pub core_at_point : (b : Bounds) (c : Core) (x : List ℤ) → IsPointBox b x → is_missed (range_at b c.0) c ≡ false → core_allows c (coordinate x c.0) ≡ true
+core_at_point b c x h e = let one : IsOne (range_at b c.0) (coordinate x c.0) = one_at b x c.0 h in core_by (range_at b c.0) c (coordinate x c.0) one.lower one.upper e
 
 -- ---- sets
 
@@ -92,9 +92,9 @@ lacks_one v = lacks_by v (is_nonzero v) refl
 lacks_at : (r : ℤ × ℤ) (v : ℤ) → IsOne r v → lacks_zero r ≡ is_nonzero v
 lacks_at r v o = ap (λ (u : ℤ). not (int_le u (pos 0) && int_le (pos 0) r.1)) o.lower ∙ ap (λ (u : ℤ). not (int_le v (pos 0) && int_le (pos 0) u)) o.upper ∙ lacks_one v
 
-truths_at : (b : Bounds) (x : List ℤ) (vs : List ℕ) → IsPointBox b x → map (λ (v : ℕ). lacks_zero (range_at b v)) vs ≡ map is_nonzero (map (entry x) vs)
+truths_at : (b : Bounds) (x : List ℤ) (vs : List ℕ) → IsPointBox b x → map (λ (v : ℕ). lacks_zero (range_at b v)) vs ≡ map is_nonzero (map (coordinate x) vs)
 truths_at b x [] h = refl
-truths_at b x (v ∷ vs) h = ap₂ (λ (c : Bool) (cs : List Bool). c ∷ cs) (lacks_at (range_at b v) (entry x v) (one_at b x v h)) (truths_at b x vs h)
+truths_at b x (v ∷ vs) h = ap₂ (λ (c : Bool) (cs : List Bool). c ∷ cs) (lacks_at (range_at b v) (coordinate x v) (one_at b x v h)) (truths_at b x vs h)
 
 or_first : (a b : Bool) → a || b ≡ false → a ≡ false
 or_first true b e = e
@@ -173,7 +173,7 @@ allows One vs e = few_tests (count_by is_nonzero vs) (count_one vs e)
 allows Two vs e = allows_two vs (count_two vs e)
 
 pub set_at_point : (b : Bounds) (set : Sos) (x : List ℤ) → IsPointBox b x → is_set_broken b set ≡ false → set_holds set x ≡ true
-set_at_point b set x h e = allows set.kind (map (entry x) set.vars) (ap (has_pair (clash_distance set.kind)) (sym (truths_at b x set.vars h)) ∙ e)
+set_at_point b set x h e = allows set.kind (map (coordinate x) set.vars) (ap (has_pair (clash_distance set.kind)) (sym (truths_at b x set.vars h)) ∙ e)
 
 -- ---- all of a model
 
@@ -216,7 +216,7 @@ within_root root b x u w = record {
   long = w.long ∙ u.long;
   each = λ j l. (
       let c : IsCovered (range_at root j) (range_at b j) = u.each j l in
-      let v : IsBetween (range_at b j) (entry x j) = w.each j (omega (arith, u.long)) in
+      let v : IsBetween (range_at b j) (coordinate x j) = w.each j (omega (arith, u.long)) in
       record { least = omega (arith, ints, c.lower, v.least); greatest = omega (arith, ints, c.upper, v.greatest) }
       );
 }

@@ -13,7 +13,7 @@ use Rattle.sp_model.specs.declared.parts.Sos.{Sos}
 use Rattle.sp_model.specs.declared.parts.SosKind.{SosKind}
 use Rattle.sp_model.specs.declared.parts.SosKind.TheVariants.{One, Two}
 use Rattle.sp_model.specs.declared.parts.ModelParts.{ModelParts}
-use Rattle.sp_model.specs.Boxes.{Bounds, range_at, entry, IsBetween, IsWithin}
+use Rattle.sp_model.specs.Boxes.{Bounds, range_at, coordinate, IsBetween, IsWithin}
 use Rattle.sp_model.specs.Models.{Feasible, has_neighbours, indicator_holds, is_nonzero, row_holds, set_allows, set_holds, switch_value}
 use Rattle.sp_model.specs.Stated.{Core, core_allows}
 use Rattle.sp_sums.specs.Extremes.{is_broken_over, is_high, is_low, span_of}
@@ -39,7 +39,7 @@ or_right true b e = refl
 or_right false b e = e
 
 -- also past the last variable
-pub between_at : (b : Bounds) (x : List ℤ) (j : ℕ) → IsWithin b x → IsBetween (range_at b j) (entry x j)
+pub between_at : (b : Bounds) (x : List ℤ) (j : ℕ) → IsWithin b x → IsBetween (range_at b j) (coordinate x j)
 between_at b x j h = elim (cases_lt j (length b)) [
   | inl l ↦ h.each j l
   | inr g ↦ (
@@ -70,7 +70,7 @@ or_last false b e f = cc
 -- an indicator that is asked holds only where its row does
 pub asked_row : (b : Bounds) (i : Indicator) (x : List ℤ) → IsWithin b x → is_asked b i ≡ true → indicator_holds i x ≡ true → row_holds i.row x ≡ true
 asked_row b i x w a h =
-    or_last (int_eq (entry x i.var) (switch_value i.on)) (row_holds i.row x) h (fixed (range_at b i.var) (entry x i.var) (switch_value i.on) (between_at b x i.var w) a)
+    or_last (int_eq (coordinate x i.var) (switch_value i.on)) (row_holds i.row x) h (fixed (range_at b i.var) (coordinate x i.var) (switch_value i.on) (between_at b x i.var w) a)
 
 -- ---- cores
 
@@ -87,12 +87,12 @@ nonzero_from r v h e = let l = h.least in let g = h.greatest in grind (arith, in
 count-cons : (v : ℤ) (vs : List ℤ) → count_by is_nonzero (v ∷ vs) ≡ cond (is_nonzero v) 1 0 + count_by is_nonzero vs
 count-cons v vs = sum_by-cons (λ (w : ℤ). cond (is_nonzero w) 1 0) v vs
 
-count_at : (vs : List ℤ) (p : ℕ) → p < length vs → is_nonzero (entry vs p) ≡ true → 0 < count_by is_nonzero vs
+count_at : (vs : List ℤ) (p : ℕ) → p < length vs → is_nonzero (coordinate vs p) ≡ true → 0 < count_by is_nonzero vs
 count_at [] p h e = absurd (not-suc-le-zero h)
 count_at (v ∷ vs) zero h e = rw (count-cons v vs, e) (omega arith)
 count_at (v ∷ vs) (suc p) h e = omega (arith, count-cons v vs, count_at vs p (le_of_suc-le-suc h) e)
 
-count_two : (vs : List ℤ) (p q : ℕ) → p < q → q < length vs → is_nonzero (entry vs p) ≡ true → is_nonzero (entry vs q) ≡ true → 1 < count_by is_nonzero vs
+count_two : (vs : List ℤ) (p q : ℕ) → p < q → q < length vs → is_nonzero (coordinate vs p) ≡ true → is_nonzero (coordinate vs q) ≡ true → 1 < count_by is_nonzero vs
 count_two [] p q l h e f = absurd (not-suc-le-zero h)
 count_two (v ∷ vs) p zero l h e f = absurd (not-suc-le-zero l)
 count_two (v ∷ vs) zero (suc q) l h e f = rw (count-cons v vs, e) (omega (arith, count_at vs q (le_of_suc-le-suc h) f))
@@ -110,7 +110,7 @@ neighbours_two (v ∷ []) h = cc
 neighbours_two (v ∷ w ∷ vs) h = neighbours_step v w vs (is_nonzero v) (is_nonzero w) refl refl (neighbours_two (w ∷ vs)) h
 
 -- two apart, and no other: no neighbours
-apart_first : (w : ℤ) (vs : List ℤ) (q : ℕ) (c : Bool) → is_nonzero w ≡ c → 0 < q → q < length (w ∷ vs) → is_nonzero (entry (w ∷ vs) q) ≡ true → count_by is_nonzero (w ∷ vs) ≡ 1 → (true && c) || has_neighbours (w ∷ vs) ≡ true → ⊥
+apart_first : (w : ℤ) (vs : List ℤ) (q : ℕ) (c : Bool) → is_nonzero w ≡ c → 0 < q → q < length (w ∷ vs) → is_nonzero (coordinate (w ∷ vs) q) ≡ true → count_by is_nonzero (w ∷ vs) ≡ 1 → (true && c) || has_neighbours (w ∷ vs) ≡ true → ⊥
 apart_first w vs zero c e l h f n g = not-suc-le-zero l
 apart_first w vs (suc q) true e l h f n g = let k : 0 < count_by is_nonzero vs = count_at vs q (le_of_suc-le-suc h) f in let s : count_by is_nonzero (w ∷ vs) ≡ 1 + count_by is_nonzero vs = rw (count-cons w vs, e) refl in omega arith
 apart_first w vs (suc q) false e l h f n g = let k = neighbours_two (w ∷ vs) g in omega arith
@@ -119,7 +119,7 @@ apart_step : (v : ℤ) (vs : List ℤ) (c : Bool) → is_nonzero v ≡ c → 1 <
 apart_step v vs true e l n = let s : count_by is_nonzero (v ∷ vs) ≡ 1 + count_by is_nonzero vs = rw (count-cons v vs, e) refl in absurd (omega arith)
 apart_step v vs false e l n = let s : count_by is_nonzero (v ∷ vs) ≡ 0 + count_by is_nonzero vs = rw (count-cons v vs, e) refl in (omega arith, e)
 
-apart_none : (vs : List ℤ) (p q : ℕ) → p + 2 ≤ q → q < length vs → is_nonzero (entry vs p) ≡ true → is_nonzero (entry vs q) ≡ true → count_by is_nonzero vs ≡ 2 → has_neighbours vs ≡ true → ⊥
+apart_none : (vs : List ℤ) (p q : ℕ) → p + 2 ≤ q → q < length vs → is_nonzero (coordinate vs p) ≡ true → is_nonzero (coordinate vs q) ≡ true → count_by is_nonzero vs ≡ 2 → has_neighbours vs ≡ true → ⊥
 apart_none [] p q l h e f n g = not-suc-le-zero h
 apart_none (v ∷ []) p q l h e f n g = omega arith
 apart_none (v ∷ w ∷ vs) p zero l h e f n g = omega arith
@@ -144,7 +144,7 @@ two_cases n g h e = two_step n g (nat_le n 1) refl h e
     two_step n g true q h e = absurd (one_denies n h q)
     two_step n g false q h e = let r = and_parts (nat_eq n 2) g e in (let t = r.0 in grind (arith, nat_tests), r.1)
 
-allows_not : (k : SosKind) (vs : List ℤ) (p q : ℕ) → p + clash_distance k ≤ q → q < length vs → is_nonzero (entry vs p) ≡ true → is_nonzero (entry vs q) ≡ true → set_allows k vs ≡ true → ⊥
+allows_not : (k : SosKind) (vs : List ℤ) (p q : ℕ) → p + clash_distance k ≤ q → q < length vs → is_nonzero (coordinate vs p) ≡ true → is_nonzero (coordinate vs q) ≡ true → set_allows k vs ≡ true → ⊥
 allows_not One vs p q l h e f g = one_denies (count_by is_nonzero vs) (count_two vs p q (omega arith) h e f) g
 allows_not Two vs p q l h e f g =
     let two = count_two vs p q (omega arith) h e f in
@@ -153,12 +153,12 @@ allows_not Two vs p q l h e f g =
 
 pub clash_denies : (b : Bounds) (set : Sos) (p q : ℕ) (x : List ℤ) → IsWithin b x → IsClash b set p q → set_holds set x ≡ true → ⊥
 clash_denies b set p q x w c h =
-    let f = λ (v : ℕ). entry x v in
+    let f = λ (v : ℕ). coordinate x v in
     let long = length-map set.vars f in
     let p_known : p < length set.vars = p_below p (clash_distance set.kind) q (length set.vars) c.apart c.known in
     allows_not set.kind (map f set.vars) p q c.apart (omega (arith, long, c.known))
-    (ap is_nonzero (get_or-map f set.vars p 0 (pos 0) p_known) ∙ nonzero_from (member_range b set p) (entry x (get_or set.vars p 0)) (between_at b x (get_or set.vars p 0) w) c.first)
-    (ap is_nonzero (get_or-map f set.vars q 0 (pos 0) c.known) ∙ nonzero_from (member_range b set q) (entry x (get_or set.vars q 0)) (between_at b x (get_or set.vars q 0) w) c.second)
+    (ap is_nonzero (get_or-map f set.vars p 0 (pos 0) p_known) ∙ nonzero_from (member_range b set p) (coordinate x (get_or set.vars p 0)) (between_at b x (get_or set.vars p 0) w) c.first)
+    (ap is_nonzero (get_or-map f set.vars q 0 (pos 0) c.known) ∙ nonzero_from (member_range b set q) (coordinate x (get_or set.vars q 0)) (between_at b x (get_or set.vars q 0) w) c.second)
     h
   where
     p_below : (p d q n : ℕ) → p + d ≤ q → q < n → p < n
@@ -171,8 +171,8 @@ empty_holds_none r v h e = let l = h.least in let g = h.greatest in grind (arith
 
 pub denies : (m : ModelParts) (b : Bounds) (x : List ℤ) → BrokenHoldsNowhere → (r : Reason) → Holds m b r → IsWithin b x → Feasible m x → ⊥
 denies m b x n (Empty j) h w f =
-    let v : IsBetween (range_at b j) (entry x j) = w.each j h.known in
-    empty_holds_none (range_at b j) (entry x j) v h.crossed
+    let v : IsBetween (range_at b j) (coordinate x j) = w.each j h.known in
+    empty_holds_none (range_at b j) (coordinate x j) v h.crossed
 denies m b x n (RowLow k) h w f = low_denies b (row_at m.rows k) x n w h.1.1 (f.rows k bare_row h.1.0)
 denies m b x n (RowHigh k) h w f = high_denies b (row_at m.rows k) x n w h.1.1 (f.rows k bare_row h.1.0)
 denies m b x n (IndicatorLow k) h w f =
@@ -183,4 +183,4 @@ denies m b x n (SetClash k p q) h w f = clash_denies b (set_at m.sos k) p q x w 
 denies m b x n (Semi j) h w f =
     let g = h.1 in
     let missed : is_missed (range_at b (core_at m.semi g.place).0) (core_at m.semi g.place) ≡ true = rw g.variable g.missed in
-    missed_denies (range_at b (core_at m.semi g.place).0) (core_at m.semi g.place) (entry x (core_at m.semi g.place).0) (between_at b x (core_at m.semi g.place).0 w) missed (f.cores g.place (0, pos 0, pos 0) g.known)
+    missed_denies (range_at b (core_at m.semi g.place).0) (core_at m.semi g.place) (coordinate x (core_at m.semi g.place).0) (between_at b x (core_at m.semi g.place).0 w) missed (f.cores g.place (0, pos 0, pos 0) g.known)

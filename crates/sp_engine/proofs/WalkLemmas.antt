@@ -10,7 +10,7 @@ use Rattle.std.proofs.lemmas.Bool.{cases_lt}
 use Rattle.std.proofs.lemmas.Int.{ints, to_z-of_z, fits_signed_from_abs}
 use Rattle.sp_list.specs.declared.found.Found.{Found}
 use Rattle.sp_model.specs.declared.parts.ModelParts.{ModelParts}
-use Rattle.sp_model.specs.Boxes.{Bounds, points, numbers_from, width_of, natural, range_at, entry, IsWithin, IsBetween}
+use Rattle.sp_model.specs.Boxes.{Bounds, points, numbers_from, width_of, natural, range_at, coordinate, IsWithin, IsBetween}
 use Rattle.sp_model.specs.Models.{root_of}
 use Rattle.sp_model.specs.Models.{constraints_hold}
 use Rattle.sp_list.specs.Lists.{found_at, found_points}
@@ -149,10 +149,10 @@ front_next b front v f h low high = record { short = omega (arith, longer); each
     longer : length (front ++ v ∷ []) ≡ length front + 1
     longer = length-append front (v ∷ [])
 
-    at_end : (j : ℕ) → j ≡ length front → IsBetween (range_at b j) (entry (front ++ v ∷ []) j)
+    at_end : (j : ℕ) → j ≡ length front → IsBetween (range_at b j) (coordinate (front ++ v ∷ []) j)
     at_end j e = rw (e, get_or-append_seam front v [] (pos 0)) (record { least = low; greatest = high })
 
-    each : (j : ℕ) → j < length (front ++ v ∷ []) → IsBetween (range_at b j) (entry (front ++ v ∷ []) j)
+    each : (j : ℕ) → j < length (front ++ v ∷ []) → IsBetween (range_at b j) (coordinate (front ++ v ∷ []) j)
     each j k = elim (lt_or_eq j (length front) (omega (arith, longer))) [
       | inl l ↦ rw (get_or-append front (v ∷ []) (pos 0) j l) (f.each j l)
       | inr e ↦ at_end j e

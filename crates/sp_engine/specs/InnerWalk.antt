@@ -2,7 +2,7 @@
 use Rattle.std.specs.Prelude.{ℕ, ◌<◌, ◌≤◌, List, ◌++◌, length, map, filter, drop, ℤ}
 use Rattle.sp_list.specs.declared.found.Found.{Found}
 use Rattle.sp_model.specs.declared.parts.ModelParts.{ModelParts}
-use Rattle.sp_model.specs.Boxes.{Bounds, points, range_at, entry, IsBetween}
+use Rattle.sp_model.specs.Boxes.{Bounds, points, range_at, coordinate, IsBetween}
 use Rattle.sp_model.specs.Models.{root_of}
 use Rattle.sp_model.specs.Models.{constraints_hold}
 use Rattle.sp_list.specs.Lists.{found_at}
@@ -18,4 +18,4 @@ walk_after m front = map (found_at m) (filter (constraints_hold m) (points_after
 -- the values are those of the first variables of a point of the box
 pub record IsFront (b : Bounds) (front : List ℤ) : Type 0 where
   pub short : length front ≤ length b
-  pub each : (j : ℕ) → j < length front → IsBetween (range_at b j) (entry front j)
+  pub each : (j : ℕ) → j < length front → IsBetween (range_at b j) (coordinate front j)

@@ -6,7 +6,7 @@ use Rattle.std.proofs.lemmas.Int.{ints, clamps}
 use Rattle.std.specs.Int.{int_min, int_max}
 use Rattle.std.specs.Int.RustNames.{unsigned_abs}
 use lib.IntN.{suc_ℤ-*ℤ, pred_ℤ-*ℤ, zero-*ℤ}
-use Rattle.sp_model.specs.Boxes.{Bounds, range_at, entry, natural, IsBetween, IsWithin}
+use Rattle.sp_model.specs.Boxes.{Bounds, range_at, coordinate, natural, IsBetween, IsWithin}
 use Rattle.sp_model.specs.Stated.{is_at_least, is_at_most}
 use Rattle.sp_model.specs.Sums.{Term}
 use Rattle.sp_filter.specs.declared.kinds.Filter.{Filter}
@@ -67,7 +67,7 @@ between_totals g h f p (t ∷ ts) =
     record { least = omega (arith, ints, k.least, j.least); greatest = omega (arith, ints, k.greatest, j.greatest) }
 
 -- also past the last variable, where the range is 0 to 0
-between_at : (b : Bounds) (x : List ℤ) (j : ℕ) → IsWithin b x → IsBetween (range_at b j) (entry x j)
+between_at : (b : Bounds) (x : List ℤ) (j : ℕ) → IsWithin b x → IsBetween (range_at b j) (coordinate x j)
 between_at b x j h = elim (cases_lt j (length b)) [
   | inl l ↦ h.each j l
   | inr g ↦ (
@@ -80,10 +80,10 @@ between_at b x j h = elim (cases_lt j (length b)) [
 pub between_sums : (f : Filter) (b : Bounds) (x : List ℤ) → IsWithin b x → IsBetween (least_sum f b, most_sum f b) (filter_sum f x)
 between_sums (Range terms lo hi scale) b x w =
     between_totals (λ (t : Term). least_multiple t.1 (range_at b t.0)) (λ (t : Term). most_multiple t.1 (range_at b t.0)) (multiple_at x)
-    (λ (t : Term). between_multiples t.1 (range_at b t.0) (entry x t.0) (between_at b x t.0 w)) terms
+    (λ (t : Term). between_multiples t.1 (range_at b t.0) (coordinate x t.0) (between_at b x t.0 w)) terms
 between_sums (Diversity terms lo hi scale) b x w =
     between_totals (λ (t : Weighted). least_multiple t.1 (distances (range_at b t.0) t.2)) (λ (t : Weighted). most_multiple t.1 (distances (range_at b t.0) t.2)) (distance_at x)
-    (λ (t : Weighted). between_multiples t.1 (distances (range_at b t.0) t.2) (pos (distance (entry x t.0) t.2)) (between_distances (range_at b t.0) t.2 (entry x t.0) (between_at b x t.0 w))) terms
+    (λ (t : Weighted). between_multiples t.1 (distances (range_at b t.0) t.2) (pos (distance (coordinate x t.0) t.2)) (between_distances (range_at b t.0) t.2 (coordinate x t.0) (between_at b x t.0 w))) terms
 
 -- ---- bounds
 
@@ -149,18 +149,18 @@ distances_same v f = ap₂ (λ m n. (pos m, pos n)) (nearest_same v f) (farthest
 pub least_at : (f : Filter) (x : List ℤ) → least_sum f (box_at x) ≡ filter_sum f x
 least_at (Range terms lo hi scale) x =
     same_total (λ (t : Term). least_multiple t.1 (range_at (box_at x) t.0)) (multiple_at x)
-    (λ (t : Term). ap (least_multiple t.1) (at_box x t.0) ∙ min_same (t.1 *ℤ entry x t.0)) terms
+    (λ (t : Term). ap (least_multiple t.1) (at_box x t.0) ∙ min_same (t.1 *ℤ coordinate x t.0)) terms
 least_at (Diversity terms lo hi scale) x =
     same_total (λ (t : Weighted). least_multiple t.1 (distances (range_at (box_at x) t.0) t.2)) (distance_at x)
-    (λ (t : Weighted). ap (λ r. least_multiple t.1 (distances r t.2)) (at_box x t.0) ∙ (ap (least_multiple t.1) (distances_same (entry x t.0) t.2) ∙ min_same (t.1 *ℤ pos (distance (entry x t.0) t.2)))) terms
+    (λ (t : Weighted). ap (λ r. least_multiple t.1 (distances r t.2)) (at_box x t.0) ∙ (ap (least_multiple t.1) (distances_same (coordinate x t.0) t.2) ∙ min_same (t.1 *ℤ pos (distance (coordinate x t.0) t.2)))) terms
 
 pub most_at : (f : Filter) (x : List ℤ) → most_sum f (box_at x) ≡ filter_sum f x
 most_at (Range terms lo hi scale) x =
     same_total (λ (t : Term). most_multiple t.1 (range_at (box_at x) t.0)) (multiple_at x)
-    (λ (t : Term). ap (most_multiple t.1) (at_box x t.0) ∙ max_same (t.1 *ℤ entry x t.0)) terms
+    (λ (t : Term). ap (most_multiple t.1) (at_box x t.0) ∙ max_same (t.1 *ℤ coordinate x t.0)) terms
 most_at (Diversity terms lo hi scale) x =
     same_total (λ (t : Weighted). most_multiple t.1 (distances (range_at (box_at x) t.0) t.2)) (distance_at x)
-    (λ (t : Weighted). ap (λ r. most_multiple t.1 (distances r t.2)) (at_box x t.0) ∙ (ap (most_multiple t.1) (distances_same (entry x t.0) t.2) ∙ max_same (t.1 *ℤ pos (distance (entry x t.0) t.2)))) terms
+    (λ (t : Weighted). ap (λ r. most_multiple t.1 (distances r t.2)) (at_box x t.0) ∙ (ap (most_multiple t.1) (distances_same (coordinate x t.0) t.2) ∙ max_same (t.1 *ℤ pos (distance (coordinate x t.0) t.2)))) terms
 
 neither : (p q : Bool) → (not p || not q) ≡ not (p && q)
 neither true q = refl

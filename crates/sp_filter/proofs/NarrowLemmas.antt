@@ -6,7 +6,7 @@ use Rattle.std.proofs.lemmas.Int.{ints}
 use Rattle.std.proofs.lemmas.List.{get_or_past, length-map}
 use Rattle.std.specs.Int.RustNames.{unsigned_abs}
 use Rattle.sp_model.specs.declared.parts.ModelParts.{ModelParts}
-use Rattle.sp_model.specs.Boxes.{Bounds, range_at, entry, IsWithin}
+use Rattle.sp_model.specs.Boxes.{Bounds, range_at, coordinate, IsWithin}
 use Rattle.sp_model.specs.Models.{root_of}
 use Rattle.sp_model.specs.Sums.{Term, reach}
 use Rattle.sp_filter.specs.declared.kinds.Filter.{Filter}

@@ -7,7 +7,7 @@ use Rattle.std.specs.Int.{int_min, int_max}
 use Rattle.std.specs.Int.RustNames.{FitsSigned, unsigned_abs}
 use mir.Syntax.{w128}
 use mir.Val.{to_z, of_z}
-use Rattle.sp_model.specs.Boxes.{Bounds, range_at, entry, natural}
+use Rattle.sp_model.specs.Boxes.{Bounds, range_at, coordinate, natural}
 use Rattle.sp_model.specs.Sums.{Term, reach}
 use Rattle.sp_filter.specs.Filters.{Weighted, box_at, multiple_at, distance_at, multiple_width, distance_width, distance, least_multiple, most_multiple, nearest, farthest, distances}
 
@@ -87,22 +87,22 @@ pub far_small : (a v f : ℤ) (r : ℤ × ℤ) → v ≡ (distances r f).1 → u
 far_small a v f r e k = multiple_small a v (reach r + unsigned_abs f) (rw (e, abs-pos (farthest r f)) (farthest-le r f)) k
 
 -- the range of a variable in the box of a point
-pub at_box : (x : List ℤ) (j : ℕ) → range_at (box_at x) j ≡ (entry x j, entry x j)
+pub at_box : (x : List ℤ) (j : ℕ) → range_at (box_at x) j ≡ (coordinate x j, coordinate x j)
 at_box x j = get_or-map (λ (v : ℤ). (v, v)) x j (pos 0)
 
-pub distance_small : (x : List ℤ) (t : Weighted) (d : ℕ) → d ≡ distance (entry x t.0) t.2 → distance_width (box_at x) t ≤ 10 ^ 36 → unsigned_abs (t.1 *ℤ pos d) ≤ 10 ^ 36
+pub distance_small : (x : List ℤ) (t : Weighted) (d : ℕ) → d ≡ distance (coordinate x t.0) t.2 → distance_width (box_at x) t ≤ 10 ^ 36 → unsigned_abs (t.1 *ℤ pos d) ≤ 10 ^ 36
 distance_small x t d e k =
     let r = at_box x t.0 in
-    let h : distance (entry x t.0) t.2 ≤ reach (range_at (box_at x) t.0) + unsigned_abs t.2 = rw r (distance-le (entry x t.0) t.2 (reach (entry x t.0, entry x t.0)) (omega arith)) in
-    multiple_small t.1 (pos d) (reach (range_at (box_at x) t.0) + unsigned_abs t.2) (rw (e, abs-pos (distance (entry x t.0) t.2)) h) k
+    let h : distance (coordinate x t.0) t.2 ≤ reach (range_at (box_at x) t.0) + unsigned_abs t.2 = rw r (distance-le (coordinate x t.0) t.2 (reach (coordinate x t.0, coordinate x t.0)) (omega arith)) in
+    multiple_small t.1 (pos d) (reach (range_at (box_at x) t.0) + unsigned_abs t.2) (rw (e, abs-pos (distance (coordinate x t.0) t.2)) h) k
 
 -- ---- what a term adds is at most its width
 
 pub multiple-le : (x : List ℤ) (t : Term) → unsigned_abs (multiple_at x t) ≤ multiple_width (box_at x) t
-multiple-le x t = rw (at_box x t.0) (scaled-le t.1 (entry x t.0) (reach (entry x t.0, entry x t.0)) (omega arith))
+multiple-le x t = rw (at_box x t.0) (scaled-le t.1 (coordinate x t.0) (reach (coordinate x t.0, coordinate x t.0)) (omega arith))
 
 pub weighted-le : (x : List ℤ) (t : Weighted) → unsigned_abs (distance_at x t) ≤ distance_width (box_at x) t
-weighted-le x t = rw (at_box x t.0) (scaled-le t.1 (pos (distance (entry x t.0) t.2)) (reach (entry x t.0, entry x t.0) + unsigned_abs t.2) (rw (abs-pos (distance (entry x t.0) t.2)) (distance-le (entry x t.0) t.2 (reach (entry x t.0, entry x t.0)) (omega arith))))
+weighted-le x t = rw (at_box x t.0) (scaled-le t.1 (pos (distance (coordinate x t.0) t.2)) (reach (coordinate x t.0, coordinate x t.0) + unsigned_abs t.2) (rw (abs-pos (distance (coordinate x t.0) t.2)) (distance-le (coordinate x t.0) t.2 (reach (coordinate x t.0, coordinate x t.0)) (omega arith))))
 
 -- the ends of the distances from a reference
 near-abs : (r : ℤ × ℤ) (f : ℤ) → unsigned_abs (pos (nearest r f)) ≤ reach r + unsigned_abs f

@@ -2,7 +2,7 @@
 use Rattle.std.specs.Prelude.{◌≡◌, ℕ, ◌+◌, ◌*◌, ◌^◌, ◌<◌, ◌≤◌, max, Bool, not, ◌&&◌, ◌||◌, List, [], ◌∷◌, map, length, All, Option, ℤ, pos, ◌+ℤ◌, ◌-ℤ◌, ◌*ℤ◌, ◌≤ℤ◌, unsigned_abs, IsTrue}
 use Rattle.std.specs.Int.{int_min, int_max}
 use Rattle.sp_model.specs.declared.parts.ModelParts.{ModelParts}
-use Rattle.sp_model.specs.Boxes.{Bounds, range_at, entry, natural}
+use Rattle.sp_model.specs.Boxes.{Bounds, range_at, coordinate, natural}
 use Rattle.sp_model.specs.Sums.{Term, reach, side_width}
 use Rattle.sp_model.specs.Models.{root_of}
 use Rattle.sp_model.specs.Stated.{is_at_least, is_at_most}
@@ -31,10 +31,10 @@ distance value reference = unsigned_abs (value -ℤ reference)
 
 -- what a term adds to the sum at a point: the coefficient times the value, the weight times the distance
 abbrev pub multiple_at : List ℤ → Term → ℤ
-multiple_at x t = t.1 *ℤ entry x t.0
+multiple_at x t = t.1 *ℤ coordinate x t.0
 
 abbrev pub distance_at : List ℤ → Weighted → ℤ
-distance_at x t = t.1 *ℤ pos (distance (entry x t.0) t.2)
+distance_at x t = t.1 *ℤ pos (distance (coordinate x t.0) t.2)
 
 -- the sum of a filter at a point
 abbrev pub filter_sum : Filter → List ℤ → ℤ

@@ -1,7 +1,7 @@
 //! What a term of a filter adds to the sum, at a point and over a box.
 
 ghost use Rattle.std.specs.Prelude.{◌≡◌, ◌^◌, ◌<◌, ◌≤◌, length, pos, ◌-ℤ◌, ◌*ℤ◌, unsigned_abs};
-ghost use Rattle.sp_model.specs.Boxes.{entry, range_at, natural};
+ghost use Rattle.sp_model.specs.Boxes.{coordinate, range_at, natural};
 ghost use Rattle.sp_filter.specs.Filters.{multiple_at, distance_at, distance, least_multiple, most_multiple, nearest, farthest, distances, multiple_width, distance_width, box_at};
 
 use sp_model::{BoxOf, VarId};

@@ -8,7 +8,7 @@ use Rattle.std.proofs.lemmas.List.Kept.{IsStrictlySortedBy-filter}
 use Rattle.std.proofs.lemmas.List.Elements.{All-map, All-contains_itself}
 use Rattle.sp_list.specs.declared.found.Found.{Found}
 use Rattle.sp_model.specs.declared.parts.ModelParts.{ModelParts}
-use Rattle.sp_model.specs.Boxes.{ranges, points, entry, IsWithin}
+use Rattle.sp_model.specs.Boxes.{ranges, points, coordinate, IsWithin}
 use Rattle.sp_model.specs.Sums.{Term, sum_at, magnitude}
 use Rattle.sp_model.specs.Models.{Feasible, objective, root_of}
 use Rattle.sp_model.specs.Boxes.{lex_cmp}

@@ -6,7 +6,7 @@ use Rattle.std.proofs.lemmas.List.{get_or-set_other, get_or-set_same, get_or_pas
 use Rattle.std.proofs.Math.ListN.{get_or-map}
 use Rattle.sp_model.specs.declared.parts.ModelParts.{ModelParts}
 use Rattle.sp_model.specs.declared.parts.Row.{Row}
-use Rattle.sp_model.specs.Boxes.{range_at, entry, IsBetween, IsWithin}
+use Rattle.sp_model.specs.Boxes.{range_at, coordinate, IsBetween, IsWithin}
 use Rattle.sp_model.specs.Limits.{most_rounds}
 use Rattle.sp_model.specs.Models.{root_of}
 use Rattle.sp_model.specs.Rounds.{takes_part, least_end, greatest_end, sum_at_ends, hi_upper, hi_lower, lo_lower, lo_upper, closed_by, after_rules, close_variable, close_along, close_row, round, rounds, rounded, closed}
@@ -120,6 +120,6 @@ keeps_from_within m x h w =
     record {
       long = w.long ∙ long;
       each = λ j l.
-          keeps_closed (open_at (stated_of m) j) (open_at (rounded m) j) (entry x j) ((stated_stay m).each j)
-          (subst (λ r. IsBetween r (entry x j)) (range_of_root m j) (w.each j (omega (arith, long))));
+          keeps_closed (open_at (stated_of m) j) (open_at (rounded m) j) (coordinate x j) ((stated_stay m).each j)
+          (subst (λ r. IsBetween r (coordinate x j)) (range_of_root m j) (w.each j (omega (arith, long))));
     }

@@ -7,7 +7,7 @@ use Rattle.std.proofs.lemmas.Bool.{cases_Bool, cond-true, cond-false}
 use Rattle.sp_model.specs.declared.gaps.Gap.{Gap}
 use Rattle.sp_model.specs.declared.gaps.Gap.TheVariants.{Unlimited, Of}
 use Rattle.sp_model.specs.declared.gaps.Gaps.{Gaps}
-use Rattle.sp_model.specs.Cuts.{least_of, ceiling, part, cut_of, IsWithinGap, IsWithinGaps}
+use Rattle.sp_model.specs.Cuts.{least_of, ceiling, cut_by, cut_of, IsWithinGap, IsWithinGaps}
 use Rattle.sp_model.proofs.PointLemmas.{test_le}
 
 -- ---- the lesser of two numbers
@@ -55,7 +55,7 @@ power_bound s n h = pow-le-pow_right {n = 10} (omega arith) h
 
 -- ---- the greatest whole number within the gaps
 
-pub le_part : (best : ℤ) (gap : Gap) (base : ℕ) (z : ℤ) → z ≤ℤ ceiling → (z ≤ℤ part best gap base) ↔ IsWithinGap best gap base z
+pub le_part : (best : ℤ) (gap : Gap) (base : ℕ) (z : ℤ) → z ≤ℤ ceiling → (z ≤ℤ cut_by best gap base) ↔ IsWithinGap best gap base z
 le_part best Unlimited base z h = (λ p. tt, λ p. h)
 le_part best (Of p s) base z h =
     let iff = le_quotient (z -ℤ best) (10 ^ s) (p * base) (power_positive s) in
@@ -63,8 +63,8 @@ le_part best (Of p s) base z h =
 
 pub le_cut : (best : ℤ) (gaps : Gaps) (scale : ℕ) (z : ℤ) → (z ≤ℤ cut_of best gaps scale) ↔ IsWithinGaps best gaps scale z
 le_cut best gaps scale z =
-    let parts = le_least z (part best gaps.abs (10 ^ scale)) (part best gaps.rel (unsigned_abs best)) in
-    let all = le_least z (least_of (part best gaps.abs (10 ^ scale)) (part best gaps.rel (unsigned_abs best))) ceiling in (
+    let parts = le_least z (cut_by best gaps.abs (10 ^ scale)) (cut_by best gaps.rel (unsigned_abs best)) in
+    let all = le_least z (least_of (cut_by best gaps.abs (10 ^ scale)) (cut_by best gaps.rel (unsigned_abs best))) ceiling in (
       λ h. let a = all.0 h in
           let b = parts.0 a.0 in
           record {
@@ -84,13 +84,13 @@ quotient_split p b d h =
     ap (λ n. n / d) parts ∙ add-mul-div_right (p * (b % d)) (p * (b / d)) h
 
 -- a reach past the farthest one is past the ceiling
-pub part_is : (best : ℤ) (p s base : ℕ) (reach : ℕ) → unsigned_abs best ≤ 10 ^ 36 → reach ≡ min (p * base / 10 ^ s) (2 * 10 ^ 36) → int_min (best +ℤ pos reach) ceiling ≡ least_of (part best (Of p s) base) ceiling
+pub part_is : (best : ℤ) (p s base : ℕ) (reach : ℕ) → unsigned_abs best ≤ 10 ^ 36 → reach ≡ min (p * base / 10 ^ s) (2 * 10 ^ 36) → int_min (best +ℤ pos reach) ceiling ≡ least_of (cut_by best (Of p s) base) ceiling
 part_is best p s base reach near e =
     (let far : reach ≡ min (p * base / 10 ^ s) (2 * 10 ^ 36) = e in omega (arith, ints, clamps)) ∙ sym (least_is_min (best +ℤ pos (p * base / 10 ^ s)) ceiling)
 
 -- the lesser of the two parts, each at most the ceiling
-pub cut_is : (best : ℤ) (gaps : Gaps) (scale : ℕ) → int_min (least_of (part best gaps.abs (10 ^ scale)) ceiling) (least_of (part best gaps.rel (unsigned_abs best)) ceiling) ≡ cut_of best gaps scale
-cut_is best gaps scale = mins (part best gaps.abs (10 ^ scale)) (part best gaps.rel (unsigned_abs best)) ceiling
+pub cut_is : (best : ℤ) (gaps : Gaps) (scale : ℕ) → int_min (least_of (cut_by best gaps.abs (10 ^ scale)) ceiling) (least_of (cut_by best gaps.rel (unsigned_abs best)) ceiling) ≡ cut_of best gaps scale
+cut_is best gaps scale = mins (cut_by best gaps.abs (10 ^ scale)) (cut_by best gaps.rel (unsigned_abs best)) ceiling
   where
     mins : (a b c : ℤ) → int_min (least_of a c) (least_of b c) ≡ least_of (least_of a b) c
     mins a b c =

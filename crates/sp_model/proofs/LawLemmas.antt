@@ -7,7 +7,7 @@ use Rattle.std.proofs.lemmas.Int.{ints}
 use Rattle.std.proofs.lemmas.List.{ext_get_or}
 use Rattle.std.proofs.lemmas.List.Kept.{IsStrictlySortedBy-filter}
 use Rattle.sp_model.specs.declared.parts.ModelParts.{ModelParts}
-use Rattle.sp_model.specs.Boxes.{entry, lex_cmp, lies_in, points, range_at, IsWithin}
+use Rattle.sp_model.specs.Boxes.{coordinate, lex_cmp, lies_in, points, range_at, IsWithin}
 use Rattle.sp_model.specs.Limits.{greatest_bound, greatest_width, most_variables}
 use Rattle.sp_model.specs.Models.{Feasible, constraints_hold, feasible_points, objective, root_of}
 use Rattle.sp_model.specs.Rounds.{closed, rounded}
@@ -32,7 +32,7 @@ short_root m l = omega (arith, long_root m l, l.box.bounds.variables.few)
 
 sum-le-magnitude : (ts : List Term) (x : List ℤ) → unsigned_abs (sum_at ts x) ≤ magnitude ts x
 sum-le-magnitude [] x = omega arith
-sum-le-magnitude (t ∷ ts) x = both (t.1 *ℤ entry x t.0) (sum_at ts x) (sum-le-magnitude ts x)
+sum-le-magnitude (t ∷ ts) x = both (t.1 *ℤ coordinate x t.0) (sum_at ts x) (sum-le-magnitude ts x)
   where
     both : (a b : ℤ) {n : ℕ} → unsigned_abs b ≤ n → unsigned_abs (a +ℤ b) ≤ unsigned_abs a + n
     both a b h = omega (arith, ints)

@@ -3,7 +3,7 @@ use Rattle.std.proofs.Common.{◌≡◌, ℕ, zero, suc, ◌<◌, true, ◌&&◌
 use Rattle.std.proofs.lemmas.Int.{ints, by_lt_z}
 use Rattle.std.proofs.lemmas.List.Elements.{Contains-append_left, Contains-append_right, Contains-append_cases}
 use Rattle.std.proofs.lemmas.Bool.{and_parts, and_from}
-use Rattle.sp_model.specs.Boxes.{Bounds, range_at, entry, IsBetween, IsWithin, lies_in, natural, width_of, numbers_from, points}
+use Rattle.sp_model.specs.Boxes.{Bounds, range_at, coordinate, IsBetween, IsWithin, lies_in, natural, width_of, numbers_from, points}
 
 -- ---- lists
 
@@ -103,7 +103,7 @@ numbers_within least (suc n) v h =
 pub within_nil : IsWithin [] []
 within_nil = record { long = refl; each = λ j h. absurd (not-suc-le-zero h) }
 
-each_cons : (r : ℤ × ℤ) (rs : Bounds) (v : ℤ) (xs : List ℤ) → IsBetween r v → IsWithin rs xs → (j : ℕ) → j < length (r ∷ rs) → IsBetween (range_at (r ∷ rs) j) (entry (v ∷ xs) j)
+each_cons : (r : ℤ × ℤ) (rs : Bounds) (v : ℤ) (xs : List ℤ) → IsBetween r v → IsWithin rs xs → (j : ℕ) → j < length (r ∷ rs) → IsBetween (range_at (r ∷ rs) j) (coordinate (v ∷ xs) j)
 each_cons r rs v xs here rest zero h = here
 each_cons r rs v xs here rest (suc j) h = rest.each j (le_of_suc-le-suc h)
 

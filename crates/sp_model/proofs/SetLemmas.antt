@@ -3,7 +3,7 @@ use Rattle.std.proofs.Common.{◌≡◌, ℕ, ◌+◌, ◌<◌, ◌≤◌, Bool,
 use Rattle.std.proofs.lemmas.List.{drop_all}
 use Rattle.std.proofs.lemmas.List.Sums.{sum_by-cons}
 use mir.Val.{bool_byte}
-use Rattle.sp_model.specs.Boxes.{entry}
+use Rattle.sp_model.specs.Boxes.{coordinate}
 use Rattle.sp_model.specs.Models.{is_nonzero, has_neighbours}
 use Rattle.sp_model.proofs.SumLemmas.{drop_item}
 
@@ -50,10 +50,10 @@ set_next all count last touching v vs h = record {
 }
 
 -- the next member
-pub set_turn : (all x : List ℤ) (vars : List ℕ) (i v count n : ℕ) (last touching b : Bool) → i < length vars → v ≡ get_or vars i v → b ≡ is_nonzero (entry x v) → n ≡ bool_byte b → SetTurns all count last touching (map (entry x) (drop i vars)) → SetTurns all (count + n) b (touching || (last && b)) (map (entry x) (drop (i + 1) vars))
+pub set_turn : (all x : List ℤ) (vars : List ℕ) (i v count n : ℕ) (last touching b : Bool) → i < length vars → v ≡ get_or vars i v → b ≡ is_nonzero (coordinate x v) → n ≡ bool_byte b → SetTurns all count last touching (map (coordinate x) (drop i vars)) → SetTurns all (count + n) b (touching || (last && b)) (map (coordinate x) (drop (i + 1) vars))
 set_turn all x vars i v count n last touching b l e p q h =
-    let d = ap (map (entry x)) (drop_item vars i v l e) in
-    let next = set_next all count last touching (entry x v) (map (entry x) (drop (i + 1) vars)) (subst (SetTurns all count last touching) d h) in
+    let d = ap (map (coordinate x)) (drop_item vars i v l e) in
+    let next = set_next all count last touching (coordinate x v) (map (coordinate x) (drop (i + 1) vars)) (subst (SetTurns all count last touching) d h) in
     rw (q, p) next
 
 or_false : (b : Bool) → (b || false) ≡ b
@@ -64,6 +64,6 @@ or_false false = refl
 set_end : (all : List ℤ) (count : ℕ) (last touching : Bool) → SetTurns all count last touching [] → (count ≡ count_by is_nonzero all) × (touching ≡ has_neighbours all)
 set_end all count last touching h = (omega (arith, h.counted), sym (or_false touching) ∙ h.touched)
 
-pub set_done : (all x : List ℤ) (vars : List ℕ) (i count : ℕ) (last touching : Bool) → length vars ≤ i → SetTurns all count last touching (map (entry x) (drop i vars)) → (count ≡ count_by is_nonzero all) × (touching ≡ has_neighbours all)
+pub set_done : (all x : List ℤ) (vars : List ℕ) (i count : ℕ) (last touching : Bool) → length vars ≤ i → SetTurns all count last touching (map (coordinate x) (drop i vars)) → (count ≡ count_by is_nonzero all) × (touching ≡ has_neighbours all)
 set_done all x vars i count last touching l h =
-    set_end all count last touching (subst (SetTurns all count last touching) (ap (map (entry x)) (drop_all i vars l)) h)
+    set_end all count last touching (subst (SetTurns all count last touching) (ap (map (coordinate x)) (drop_all i vars l)) h)

@@ -8,7 +8,7 @@ use Rattle.std.proofs.lemmas.List.{get_or-set_other, get_or-set_same, get_or_pas
 use Rattle.std.proofs.lemmas.List.Elements.{All-head, All-tail}
 use Rattle.sp_model.specs.declared.parts.ModelParts.{ModelParts}
 use Rattle.sp_model.specs.declared.parts.Row.{Row}
-use Rattle.sp_model.specs.Boxes.{entry, IsBetween, IsWithin}
+use Rattle.sp_model.specs.Boxes.{coordinate, IsBetween, IsWithin}
 use Rattle.sp_model.specs.Limits.{greatest_bound, greatest_width, most_rounds}
 use Rattle.sp_model.specs.Models.{Feasible, root_of, row_holds}
 use Rattle.sp_model.specs.Rounds.{takes_part, least_end, greatest_end, if_small, times, plus, minus, at_ends, sum_at_ends, floor_of, ceiling_of, hi_upper, hi_lower, lo_lower, lo_upper, closed_by, after_rules, close_variable, close_along, close_row, round, rounds, rounded, closed}
@@ -43,7 +43,7 @@ upper_keeps o u v h e = test_le v u (rw e at h)
 
 -- the point keeps the bounds of every variable
 pub record KeepsAll (b : OpenBounds) (x : List ℤ) : Type 0 where
-  pub each : (j : ℕ) → KeepsRange (open_at b j) (entry x j)
+  pub each : (j : ℕ) → KeepsRange (open_at b j) (coordinate x j)
 
 keeps_all : (b : OpenBounds) (x : List ℤ) → KeepsBounds b x → KeepsAll b x
 keeps_all b x h = record {
@@ -122,7 +122,7 @@ least_sum b x (t ∷ ts) s r k h =
     let f = sum_back (plus (Some s) (times t.1 (least_end t.1 (open_at b t.0)))) (at_ends least_end b ts) r h in
     let p = plus_back s (times t.1 (least_end t.1 (open_at b t.0))) f.0 f.1 in
     let q = times_back t.1 (least_end t.1 (open_at b t.0)) p.0 p.1 in
-    let term = least_term t.1 (open_at b t.0) (entry x t.0) q.0 (k.each t.0) q.1 in
+    let term = least_term t.1 (open_at b t.0) (coordinate x t.0) q.0 (k.each t.0) q.1 in
     let rest = least_sum b x ts f.0 r k (sym (ap (λ o. fold plus o (at_ends least_end b ts)) f.1) ∙ h) in
     omega (arith, ints, rest, term, p.2, q.2)
 
@@ -132,11 +132,11 @@ greatest_sum b x (t ∷ ts) s r k h =
     let f = sum_back (plus (Some s) (times t.1 (greatest_end t.1 (open_at b t.0)))) (at_ends greatest_end b ts) r h in
     let p = plus_back s (times t.1 (greatest_end t.1 (open_at b t.0))) f.0 f.1 in
     let q = times_back t.1 (greatest_end t.1 (open_at b t.0)) p.0 p.1 in
-    let term = greatest_term t.1 (open_at b t.0) (entry x t.0) q.0 (k.each t.0) q.1 in
+    let term = greatest_term t.1 (open_at b t.0) (coordinate x t.0) q.0 (k.each t.0) q.1 in
     let rest = greatest_sum b x ts f.0 r k (sym (ap (λ o. fold plus o (at_ends greatest_end b ts)) f.1) ∙ h) in
     omega (arith, ints, rest, term, p.2, q.2)
 
-sum_split : (before after : List Term) (t : Term) (x : List ℤ) → sum_at (before ++ t ∷ after) x ≡ (t.1 *ℤ entry x t.0) +ℤ sum_at (before ++ after) x
+sum_split : (before after : List Term) (t : Term) (x : List ℤ) → sum_at (before ++ t ∷ after) x ≡ (t.1 *ℤ coordinate x t.0) +ℤ sum_at (before ++ after) x
 sum_split [] after t x = refl
 sum_split (u ∷ before) after t x = omega (arith, ints, sum_split before after t x)
 
@@ -214,15 +214,15 @@ rules_keep row a r least greatest v rest k lo hi w = record {
 
 -- ---- rows and rounds
 
-write_keeps : (b : OpenBounds) (x : List ℤ) (v : ℕ) (r : OpenRange) → KeepsAll b x → KeepsRange r (entry x v) → KeepsAll (set b v r) x
+write_keeps : (b : OpenBounds) (x : List ℤ) (v : ℕ) (r : OpenRange) → KeepsAll b x → KeepsRange r (coordinate x v) → KeepsAll (set b v r) x
 write_keeps b x v r h k = record {
   each = λ j. elim (cases_eq j v) [
     | inl same ↦ elim (cases_lt v (length b)) [
-      | inl known ↦ subst (λ i. KeepsRange (open_at (set b v r) i) (entry x i)) (sym same)
-          (subst (λ s. KeepsRange s (entry x v)) (sym (get_or-set_same b v r (None, None) known)) k)
-      | inr past ↦ subst (λ c. KeepsRange (open_at c j) (entry x j)) (sym (set_past b v r past)) (h.each j)
+      | inl known ↦ subst (λ i. KeepsRange (open_at (set b v r) i) (coordinate x i)) (sym same)
+          (subst (λ s. KeepsRange s (coordinate x v)) (sym (get_or-set_same b v r (None, None) known)) k)
+      | inr past ↦ subst (λ c. KeepsRange (open_at c j) (coordinate x j)) (sym (set_past b v r past)) (h.each j)
     ]
-    | inr other ↦ subst (λ s. KeepsRange s (entry x j)) (sym (get_or-set_other b v j r (None, None) other)) (h.each j)
+    | inr other ↦ subst (λ s. KeepsRange s (coordinate x j)) (sym (get_or-set_other b v j r (None, None) other)) (h.each j)
   ];
 }
 
@@ -234,13 +234,13 @@ rest_between b x others h = record {
 
 variable_keeps : (semi : ℕ → Bool) (row : Row) (b : OpenBounds) (x : List ℤ) (before after : List Term) (t : Term) → KeepsAll b x → row_holds row x ≡ true → row.terms ≡ before ++ t ∷ after → KeepsAll (close_variable semi row b t (before ++ after)) x
 variable_keeps semi row b x before after t h holds e =
-    let s : sum_at row.terms x ≡ (t.1 *ℤ entry x t.0) +ℤ sum_at (before ++ after) x = ap (λ ts. sum_at ts x) e ∙ sum_split before after t x in
+    let s : sum_at row.terms x ≡ (t.1 *ℤ coordinate x t.0) +ℤ sum_at (before ++ after) x = ap (λ ts. sum_at ts x) e ∙ sum_split before after t x in
     let p = and_parts (is_at_least row.lo (sum_at row.terms x)) (is_at_most row.hi (sum_at row.terms x)) holds in
-    let made = rules_keep row t.1 (open_at b t.0) (sum_at_ends least_end b (before ++ after)) (sum_at_ends greatest_end b (before ++ after)) (entry x t.0) (sum_at (before ++ after) x) (h.each t.0)
+    let made = rules_keep row t.1 (open_at b t.0) (sum_at_ends least_end b (before ++ after)) (sum_at_ends greatest_end b (before ++ after)) (coordinate x t.0) (sum_at (before ++ after) x) (h.each t.0)
     (subst (λ v. is_at_least row.lo v ≡ true) s p.0) (subst (λ v. is_at_most row.hi v ≡ true) s p.1) (rest_between b x (before ++ after) h) in
     write_case (semi t.0) made
   where
-    write_case : (c : Bool) → KeepsRange (after_rules row t.1 (open_at b t.0) (sum_at_ends least_end b (before ++ after)) (sum_at_ends greatest_end b (before ++ after))) (entry x t.0) → KeepsAll (cond c b (set b t.0 (after_rules row t.1 (open_at b t.0) (sum_at_ends least_end b (before ++ after)) (sum_at_ends greatest_end b (before ++ after))))) x
+    write_case : (c : Bool) → KeepsRange (after_rules row t.1 (open_at b t.0) (sum_at_ends least_end b (before ++ after)) (sum_at_ends greatest_end b (before ++ after))) (coordinate x t.0) → KeepsAll (cond c b (set b t.0 (after_rules row t.1 (open_at b t.0) (sum_at_ends least_end b (before ++ after)) (sum_at_ends greatest_end b (before ++ after))))) x
     write_case true k = h
     write_case false k = write_keeps b x t.0 _ h k
 
@@ -293,5 +293,5 @@ feasible_within m x h f =
       long = f.within.long ∙ sym long;
       each = λ j l.
           let known : j < length (rounded m) = omega (arith, long, length_rounded m) in
-          subst (λ r. IsBetween r (entry x j)) (sym (range_of_root m j)) (between_closed (open_at (rounded m) j) (entry x j) (h.closed j (None, None) known) (keeps.each j));
+          subst (λ r. IsBetween r (coordinate x j)) (sym (range_of_root m j)) (between_closed (open_at (rounded m) j) (coordinate x j) (h.closed j (None, None) known) (keeps.each j));
     }

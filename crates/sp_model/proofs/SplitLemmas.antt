@@ -2,7 +2,7 @@
 use Rattle.std.proofs.Common.{◌≡◌, ℕ, zero, suc, ◌+◌, ◌*◌, ◌<◌, ◌⊎◌, ◌↔◌, inl, inr, List, [], ◌∷◌, map, flat_map, length, ℤ, pos, ◌+ℤ◌, ◌-ℤ◌, ◌≤ℤ◌, ◌<ℤ◌, refl, sym, ap, ◌∙◌, arith, zero-lt-suc, le_of_suc-le-suc, not-suc-le-zero, length-append, suc-mul, zero-mul, add-mul, mul-pos, mul-zero}
 use Rattle.std.proofs.Math.ListN.{length-map}
 use Rattle.std.proofs.lemmas.Int.{ints, by_lt_z}
-use Rattle.sp_model.specs.Boxes.{Bounds, entry, IsBetween, IsWithin, width_of, numbers_from, points, point_count, below, above, CanSplit}
+use Rattle.sp_model.specs.Boxes.{Bounds, coordinate, IsBetween, IsWithin, width_of, numbers_from, points, point_count, below, above, CanSplit}
 use Rattle.sp_model.proofs.PointLemmas.{within_cons, within_head, within_tail, natural_cases}
 
 -- ---- the length of the list of points
@@ -34,7 +34,7 @@ none_within r rs w = let long : 0 ≡ suc (length rs) = w.long in omega arith
 
 -- ---- the points of the two parts
 
-below_within : (b : Bounds) (v : ℕ) (at : ℤ) (x : List ℤ) → CanSplit b v at → IsWithin (below b v at) x → IsWithin b x × (entry x v ≤ℤ at)
+below_within : (b : Bounds) (v : ℕ) (at : ℤ) (x : List ℤ) → CanSplit b v at → IsWithin (below b v at) x → IsWithin b x × (coordinate x v ≤ℤ at)
 below_within [] v at x s w = absurd (no_split v at s)
 below_within (r ∷ rs) zero at [] s w = absurd (none_within (r.0, at) rs w)
 below_within (r ∷ rs) zero at (y ∷ ys) s w =
@@ -48,7 +48,7 @@ below_within (r ∷ rs) (suc v) at (y ∷ ys) s w =
     let rest = below_within rs v at ys (split_tail r rs v at s) (within_tail r (below rs v at) y ys w) in
     (within_cons r rs y ys (within_head r (below rs v at) y ys w) rest.0, rest.1)
 
-within_below : (b : Bounds) (v : ℕ) (at : ℤ) (x : List ℤ) → CanSplit b v at → IsWithin b x → entry x v ≤ℤ at → IsWithin (below b v at) x
+within_below : (b : Bounds) (v : ℕ) (at : ℤ) (x : List ℤ) → CanSplit b v at → IsWithin b x → coordinate x v ≤ℤ at → IsWithin (below b v at) x
 within_below [] v at x s w h = absurd (no_split v at s)
 within_below (r ∷ rs) v at [] s w h = absurd (none_within r rs w)
 within_below (r ∷ rs) zero at (y ∷ ys) s w h =
@@ -57,7 +57,7 @@ within_below (r ∷ rs) zero at (y ∷ ys) s w h =
 within_below (r ∷ rs) (suc v) at (y ∷ ys) s w h =
     within_cons r (below rs v at) y ys (within_head r rs y ys w) (within_below rs v at ys (split_tail r rs v at s) (within_tail r rs y ys w) h)
 
-above_within : (b : Bounds) (v : ℕ) (at : ℤ) (x : List ℤ) → CanSplit b v at → IsWithin (above b v at) x → IsWithin b x × (at <ℤ entry x v)
+above_within : (b : Bounds) (v : ℕ) (at : ℤ) (x : List ℤ) → CanSplit b v at → IsWithin (above b v at) x → IsWithin b x × (at <ℤ coordinate x v)
 above_within [] v at x s w = absurd (no_split v at s)
 above_within (r ∷ rs) zero at [] s w = absurd (none_within (at +ℤ pos 1, r.1) rs w)
 above_within (r ∷ rs) zero at (y ∷ ys) s w =
@@ -71,7 +71,7 @@ above_within (r ∷ rs) (suc v) at (y ∷ ys) s w =
     let rest = above_within rs v at ys (split_tail r rs v at s) (within_tail r (above rs v at) y ys w) in
     (within_cons r rs y ys (within_head r (above rs v at) y ys w) rest.0, rest.1)
 
-within_above : (b : Bounds) (v : ℕ) (at : ℤ) (x : List ℤ) → CanSplit b v at → IsWithin b x → at <ℤ entry x v → IsWithin (above b v at) x
+within_above : (b : Bounds) (v : ℕ) (at : ℤ) (x : List ℤ) → CanSplit b v at → IsWithin b x → at <ℤ coordinate x v → IsWithin (above b v at) x
 within_above [] v at x s w h = absurd (no_split v at s)
 within_above (r ∷ rs) v at [] s w h = absurd (none_within r rs w)
 within_above (r ∷ rs) zero at (y ∷ ys) s w h =
@@ -81,25 +81,25 @@ within_above (r ∷ rs) (suc v) at (y ∷ ys) s w h =
     within_cons r (above rs v at) y ys (within_head r rs y ys w) (within_above rs v at ys (split_tail r rs v at s) (within_tail r rs y ys w) h)
 
 -- the lower part has the points of the box with the variable's value at most at
-pub below_is : (b : Bounds) (v : ℕ) (at : ℤ) (x : List ℤ) → CanSplit b v at → IsWithin (below b v at) x ↔ (IsWithin b x × (entry x v ≤ℤ at))
+pub below_is : (b : Bounds) (v : ℕ) (at : ℤ) (x : List ℤ) → CanSplit b v at → IsWithin (below b v at) x ↔ (IsWithin b x × (coordinate x v ≤ℤ at))
 below_is b v at x s = (below_within b v at x s, λ w. within_below b v at x s w.0 w.1)
 
 -- the upper part has the points of the box with the variable's value above at
-pub above_is : (b : Bounds) (v : ℕ) (at : ℤ) (x : List ℤ) → CanSplit b v at → IsWithin (above b v at) x ↔ (IsWithin b x × (at <ℤ entry x v))
+pub above_is : (b : Bounds) (v : ℕ) (at : ℤ) (x : List ℤ) → CanSplit b v at → IsWithin (above b v at) x ↔ (IsWithin b x × (at <ℤ coordinate x v))
 above_is b v at x s = (above_within b v at x s, λ w. within_above b v at x s w.0 w.1)
 
 -- each point of the box lies in one of the two parts
 pub split_covers : (b : Bounds) (v : ℕ) (at : ℤ) (x : List ℤ) → CanSplit b v at → IsWithin b x ↔ (IsWithin (below b v at) x ⊎ IsWithin (above b v at) x)
 split_covers b v at x s = (
-  λ w. by_lt_z at (entry x v) (λ h. inr (within_above b v at x s w h)) (λ h. inl (within_below b v at x s w h)),
+  λ w. by_lt_z at (coordinate x v) (λ h. inr (within_above b v at x s w h)) (λ h. inl (within_below b v at x s w h)),
   λ w. elim w [ inl l ↦ (below_within b v at x s l).0 | inr u ↦ (above_within b v at x s u).0 ],
 )
 
 -- no point lies in both parts
 pub split_parts_apart : (b : Bounds) (v : ℕ) (at : ℤ) (x : List ℤ) → CanSplit b v at → IsWithin (below b v at) x → IsWithin (above b v at) x → ⊥
 split_parts_apart b v at x s l u =
-    let low : entry x v ≤ℤ at = (below_within b v at x s l).1 in
-    let high : at <ℤ entry x v = (above_within b v at x s u).1 in
+    let low : coordinate x v ≤ℤ at = (below_within b v at x s l).1 in
+    let high : at <ℤ coordinate x v = (above_within b v at x s u).1 in
     omega (arith, ints)
 
 -- ---- the numbers of points

@@ -7,7 +7,7 @@ use Rattle.std.proofs.lemmas.Int.{ints, to_z-of_z, unsigned_abs-mul, fits_signed
 use Rattle.std.specs.Int.RustNames.{FitsSigned, unsigned_abs}
 use mir.Syntax.{w128}
 use mir.Val.{to_z, of_z}
-use Rattle.sp_model.specs.Boxes.{Bounds, range_at, entry, IsBetween, IsWithin}
+use Rattle.sp_model.specs.Boxes.{Bounds, range_at, coordinate, IsBetween, IsWithin}
 use Rattle.sp_model.specs.Sums.{Term, sum_at, magnitude, reach, width_over}
 
 -- a value of the range is no farther from 0 than the range reaches
@@ -19,14 +19,14 @@ pub term-le-reach : (a v : ℤ) (n : ℕ) → unsigned_abs v ≤ n → unsigned_
 term-le-reach a v n h = rw unsigned_abs-mul (mul-le-mul_left (unsigned_abs a) h)
 
 -- a value of a point is within its variable's reach, also past the last variable, where both are 0
-pub entry-le-reach : (b : Bounds) (x : List ℤ) (j : ℕ) → IsWithin b x → unsigned_abs (entry x j) ≤ reach (range_at b j)
-entry-le-reach b x j h = elim (cases_lt j (length b)) [ inl l ↦ value-le-reach (range_at b j) (entry x j) (h.each j l) | inr g ↦ rw (get_or_past x j (pos 0) (omega (arith, h.long))) (omega arith) ]
+pub entry-le-reach : (b : Bounds) (x : List ℤ) (j : ℕ) → IsWithin b x → unsigned_abs (coordinate x j) ≤ reach (range_at b j)
+entry-le-reach b x j h = elim (cases_lt j (length b)) [ inl l ↦ value-le-reach (range_at b j) (coordinate x j) (h.each j l) | inr g ↦ rw (get_or_past x j (pos 0) (omega (arith, h.long))) (omega arith) ]
 
 -- at a point of the box the magnitude of a sum is at most its width
 pub magnitude-le-width : (b : Bounds) (ts : List Term) (x : List ℤ) → IsWithin b x → magnitude ts x ≤ width_over b ts
 magnitude-le-width b [] x h = omega arith
 magnitude-le-width b (t ∷ ts) x h =
-    omega (arith, magnitude-le-width b ts x h, term-le-reach t.1 (entry x t.0) (reach (range_at b t.0)) (entry-le-reach b x t.0 h))
+    omega (arith, magnitude-le-width b ts x h, term-le-reach t.1 (coordinate x t.0) (reach (range_at b t.0)) (entry-le-reach b x t.0 h))
 
 -- a number of a magnitude of at most 10^36 fits 128 bits
 pub fits_from_small : (z : ℤ) → unsigned_abs z ≤ 10 ^ 36 → FitsSigned w128 z
@@ -54,15 +54,15 @@ sum_step s v u rest x whole e h k =
     rw e made
 
 -- the same at the next term of a list
-pub sum_turn : (ts : List Term) (i : ℕ) (t : Term) (x : List ℤ) (s u : ℤ) (whole : ℤ) → i < length ts → t ≡ get_or ts i t → u ≡ t.1 *ℤ entry x t.0 → s +ℤ sum_at (drop i ts) x ≡ whole → unsigned_abs s + magnitude (drop i ts) x ≤ 10 ^ 36 → SumStep s u (drop (i + 1) ts) x whole
+pub sum_turn : (ts : List Term) (i : ℕ) (t : Term) (x : List ℤ) (s u : ℤ) (whole : ℤ) → i < length ts → t ≡ get_or ts i t → u ≡ t.1 *ℤ coordinate x t.0 → s +ℤ sum_at (drop i ts) x ≡ whole → unsigned_abs s + magnitude (drop i ts) x ≤ 10 ^ 36 → SumStep s u (drop (i + 1) ts) x whole
 sum_turn ts i t x s u whole h e q p k =
     let d : drop i ts ≡ t ∷ drop (i + 1) ts = drop_item ts i t h e in
-    sum_step s (t.1 *ℤ entry x t.0) u (drop (i + 1) ts) x whole q (rw d at p) (rw d at k)
+    sum_step s (t.1 *ℤ coordinate x t.0) u (drop (i + 1) ts) x whole q (rw d at p) (rw d at k)
 
-pub term_small : (ts : List Term) (i : ℕ) (t : Term) (x : List ℤ) (s : ℤ) → i < length ts → t ≡ get_or ts i t → unsigned_abs s + magnitude (drop i ts) x ≤ 10 ^ 36 → unsigned_abs (t.1 *ℤ entry x t.0) ≤ 10 ^ 36
+pub term_small : (ts : List Term) (i : ℕ) (t : Term) (x : List ℤ) (s : ℤ) → i < length ts → t ≡ get_or ts i t → unsigned_abs s + magnitude (drop i ts) x ≤ 10 ^ 36 → unsigned_abs (t.1 *ℤ coordinate x t.0) ≤ 10 ^ 36
 term_small ts i t x s h e k =
     let d : drop i ts ≡ t ∷ drop (i + 1) ts = drop_item ts i t h e in
-    let m : unsigned_abs s + (unsigned_abs (t.1 *ℤ entry x t.0) + magnitude (drop (i + 1) ts) x) ≤ 10 ^ 36 = rw d at k in
+    let m : unsigned_abs s + (unsigned_abs (t.1 *ℤ coordinate x t.0) + magnitude (drop (i + 1) ts) x) ≤ 10 ^ 36 = rw d at k in
     omega arith
 
 -- a step of a loop that takes the width of each term off the room: what is left of the terms

@@ -19,8 +19,8 @@ abbrev pub range_at : Bounds → ℕ → ℤ × ℤ
 range_at b j = slice_index_or b j (pos 0, pos 0)
 
 -- the value of a variable at a point, 0 past the last one
-abbrev pub entry : List ℤ → ℕ → ℤ
-entry x j = slice_index_or x j (pos 0)
+abbrev pub coordinate : List ℤ → ℕ → ℤ
+coordinate x j = slice_index_or x j (pos 0)
 
 -- the value is in the range
 pub record IsBetween (r : ℤ × ℤ) (v : ℤ) : Type 0 where
@@ -30,7 +30,7 @@ pub record IsBetween (r : ℤ × ℤ) (v : ℤ) : Type 0 where
 -- the point has one value for each range, and each value lies within its range
 pub record IsWithin (b : Bounds) (x : List ℤ) : Type 0 where
   pub long : length x ≡ length b
-  pub each : (j : ℕ) → j < length b → IsBetween (range_at b j) (entry x j)
+  pub each : (j : ℕ) → j < length b → IsBetween (range_at b j) (coordinate x j)
 
 -- the same as a test
 abbrev pub lies_in : Bounds → List ℤ → Bool

@@ -13,13 +13,13 @@ abbrev pub ceiling : ℤ
 ceiling = pos (10 ^ 36)
 
 -- the greatest whole number not above best + gap * base, for a gap of p / 10^s
-abbrev pub part : ℤ → Gap → ℕ → ℤ
-part best Unlimited base = ceiling
-part best (Of p s) base = best +ℤ pos (p * base / 10 ^ s)
+abbrev pub cut_by : ℤ → Gap → ℕ → ℤ
+cut_by best Unlimited base = ceiling
+cut_by best (Of p s) base = best +ℤ pos (p * base / 10 ^ s)
 
--- the least of the absolute part, the relative part and the ceiling
+-- the least of the cut by the absolute gap, the cut by the relative gap and the ceiling
 abbrev pub cut_of : ℤ → Gaps → ℕ → ℤ
-cut_of best gaps scale = least_of (least_of (part best gaps.abs (10 ^ scale)) (part best gaps.rel (unsigned_abs best))) ceiling
+cut_of best gaps scale = least_of (least_of (cut_by best gaps.abs (10 ^ scale)) (cut_by best gaps.rel (unsigned_abs best))) ceiling
 
 -- the last digit behind the point isn't 0, where a digit stands there
 abbrev pub IsLeastScale : ℕ → ℕ → Type 0

@@ -8,7 +8,7 @@ use Rattle.sp_model.specs.declared.parts.Sos.{Sos}
 use Rattle.sp_model.specs.declared.parts.SosKind.{SosKind}
 use Rattle.sp_model.specs.declared.parts.SosKind.TheVariants.{One, Two}
 use Rattle.sp_model.specs.declared.parts.ModelParts.{ModelParts}
-use Rattle.sp_model.specs.Boxes.{Bounds, entry, points}
+use Rattle.sp_model.specs.Boxes.{Bounds, coordinate, points}
 use Rattle.sp_model.specs.Rounds.{closed, rounded}
 use Rattle.sp_model.specs.Stated.{KeepsBounds, core_holds, is_at_least, is_at_most, stated_of}
 use Rattle.sp_model.specs.Sums.{sum_at, width_over, side_width}
@@ -24,7 +24,7 @@ switch_value false = pos 0
 
 -- the row holds where the variable equals on
 abbrev pub indicator_holds : Indicator → List ℤ → Bool
-indicator_holds i x = not (int_eq (entry x i.var) (switch_value i.on)) || row_holds i.row x
+indicator_holds i x = not (int_eq (coordinate x i.var) (switch_value i.on)) || row_holds i.row x
 
 abbrev pub is_nonzero : ℤ → Bool
 is_nonzero v = not (int_eq v (pos 0))
@@ -42,7 +42,7 @@ set_allows Two vs = nat_le (count_by is_nonzero vs) 1 || ((count_by is_nonzero v
 
 -- the set allows the values of its members
 abbrev pub set_holds : Sos → List ℤ → Bool
-set_holds set x = set_allows set.kind (map (entry x) set.vars)
+set_holds set x = set_allows set.kind (map (coordinate x) set.vars)
 
 -- the closed box of a model of which no bound is missing after the rounds
 unfoldable pub root_of : ModelParts → Bounds

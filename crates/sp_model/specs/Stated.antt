@@ -4,7 +4,7 @@ use Rattle.std.specs.Int.{int_min, int_max}
 use Rattle.std.specs.List.{list_any, zip}
 use Rattle.std.specs.Ordering.{int_eq}
 use Rattle.sp_model.specs.declared.parts.ModelParts.{ModelParts}
-use Rattle.sp_model.specs.Boxes.{entry}
+use Rattle.sp_model.specs.Boxes.{coordinate}
 
 -- ---- bounds that may be missing
 
@@ -37,7 +37,7 @@ pub record KeepsRange (r : OpenRange) (v : ℤ) : Type 0 where
 -- the point has one value for each variable, and each value keeps the bounds that are there
 pub record KeepsBounds (b : OpenBounds) (x : List ℤ) : Type 0 where
   pub long : length x ≡ length b
-  pub each : (j : ℕ) → j < length b → KeepsRange (open_at b j) (entry x j)
+  pub each : (j : ℕ) → j < length b → KeepsRange (open_at b j) (coordinate x j)
 
 -- no bound is missing
 pub record IsClosedRange (r : OpenRange) : Type 0 where
@@ -59,7 +59,7 @@ abbrev pub core_allows : Core → ℤ → Bool
 core_allows c v = int_eq v (pos 0) || (int_le c.1 v && int_le v c.2)
 
 abbrev pub core_holds : Core → List ℤ → Bool
-core_holds c x = core_allows c (entry x c.0)
+core_holds c x = core_allows c (coordinate x c.0)
 
 -- the least range that holds 0 and the core: 0 alone where the core is empty
 abbrev pub widened : Core → ℤ × ℤ

@@ -1,6 +1,6 @@
 -- Sums of terms, at a point and at their widest.
 use Rattle.std.specs.Prelude.{ℕ, ◌+◌, ◌*◌, ◌^◌, ◌<◌, ◌≤◌, max, List, [], ◌∷◌, length, All, Option, None, Some, ℤ, pos, ◌+ℤ◌, ◌*ℤ◌, unsigned_abs}
-use Rattle.sp_model.specs.Boxes.{Bounds, range_at, entry}
+use Rattle.sp_model.specs.Boxes.{Bounds, range_at, coordinate}
 
 -- a variable with its coefficient
 abbrev pub Term : Type 0
@@ -9,7 +9,7 @@ Term = ℕ × ℤ
 -- the sum of the terms at a point
 abbrev pub sum_at : List Term → List ℤ → ℤ
 sum_at [] x = pos 0
-sum_at (t ∷ ts) x = (t.1 *ℤ entry x t.0) +ℤ sum_at ts x
+sum_at (t ∷ ts) x = (t.1 *ℤ coordinate x t.0) +ℤ sum_at ts x
 
 -- how far a value of a range can be from 0, and at least 1
 abbrev pub reach : ℤ × ℤ → ℕ
@@ -28,7 +28,7 @@ side_width (Some v) = unsigned_abs v
 -- the magnitudes of the terms at a point, added up
 abbrev pub magnitude : List Term → List ℤ → ℕ
 magnitude [] x = 0
-magnitude (t ∷ ts) x = unsigned_abs (t.1 *ℤ entry x t.0) + magnitude ts x
+magnitude (t ∷ ts) x = unsigned_abs (t.1 *ℤ coordinate x t.0) + magnitude ts x
 
 -- at a point of so many values: the variables are known, and the sum of the magnitudes is at most 10^36
 pub record AreTermsSafe (ts : List Term) (x : List ℤ) : Type 0 where

@@ -2,7 +2,7 @@
 
 ghost use Rattle.std.specs.Prelude.{◌≡◌, ◌↔◌, ◌⊎◌, ◌+◌, ◌<◌, List, ℤ, ◌≤ℤ◌, ◌<ℤ◌, ℕ, length, Contains, IsTrue};
 ghost use Rattle.std.specs.List.Sorted.{IsStrictlySortedBy};
-ghost use Rattle.sp_model.specs.Boxes.{Bounds, entry, lex_cmp, IsWithin, lies_in, points, point_count, below, above, CanSplit};
+ghost use Rattle.sp_model.specs.Boxes.{Bounds, coordinate, lex_cmp, IsWithin, lies_in, points, point_count, below, above, CanSplit};
 
 /// A point is in the list of a box's points exactly where it lies within the box.
 pub fn points_are_all_within()
@@ -27,9 +27,9 @@ pub fn points_are_counted()
 /// A split gives the points with the variable's value up to `at`, and those above it.
 pub fn split_is_by_value()
     ensures lower { (b : Bounds) (v : ℕ) (at : ℤ) (x : List ℤ) → CanSplit b v at
-        → IsWithin (below b v at) x ↔ (IsWithin b x × (entry x v ≤ℤ at)) }
+        → IsWithin (below b v at) x ↔ (IsWithin b x × (coordinate x v ≤ℤ at)) }
     ensures upper { (b : Bounds) (v : ℕ) (at : ℤ) (x : List ℤ) → CanSplit b v at
-        → IsWithin (above b v at) x ↔ (IsWithin b x × (at <ℤ entry x v)) }
+        → IsWithin (above b v at) x ↔ (IsWithin b x × (at <ℤ coordinate x v)) }
 {}
 
 /// Each point of a box lies in exactly one part of a split, and no other point in either.

@@ -1,7 +1,7 @@
 //! Gaps, and the cut that they give.
 
 ghost use Rattle.std.specs.Prelude.{◌≡◌, ◌*◌, ◌/◌, ◌^◌, ◌<◌, ◌≤◌, ◌↔◌, ℤ, ℕ, min, ◌≤ℤ◌, unsigned_abs, IsTrue};
-ghost use Rattle.sp_model.specs.Cuts.{least_of, ceiling, part, cut_of, IsGap};
+ghost use Rattle.sp_model.specs.Cuts.{least_of, ceiling, cut_by, cut_of, IsGap};
 
 /// How far from the optimum a listed point may lie.
 #[derive(Clone, Copy, Debug)]
@@ -78,7 +78,7 @@ fn part_of(best: &i128, gap: &Gap, base: u128) -> i128
     requires near { unsigned_abs best.now ≤ 10 ^ 36 }
     requires gap { IsGap gap.now }
     requires base { base ≤ 10 ^ 36 }
-    ensures { result ≡ least_of (part best.now gap.now base) ceiling }
+    ensures { result ≡ least_of (cut_by best.now gap.now base) ceiling }
 {
     match gap {
         Gap::Unlimited => CEILING,

@@ -1,7 +1,7 @@
 //! Sums of terms at a point, and what is left of a width beside them.
 
 ghost use Rattle.std.specs.Prelude.{◌≡◌, ◌+◌, ◌-◌, ◌*◌, ◌^◌, ◌<◌, ◌≤◌, All, length, ◌+ℤ◌, ◌*ℤ◌, unsigned_abs, SomeIff};
-ghost use Rattle.sp_model.specs.Boxes.{entry, range_at};
+ghost use Rattle.sp_model.specs.Boxes.{coordinate, range_at};
 ghost use Rattle.sp_model.specs.Sums.{sum_at, magnitude, reach, width_over, side_width};
 
 use crate::boxes::BoxOf;
@@ -9,8 +9,8 @@ use crate::ids::VarId;
 
 fn value_at(term: &(VarId, i128), x: &[i64]) -> i128
     requires known { term.now.0 < length x.now }
-    requires small { unsigned_abs (term.now.1 *ℤ entry x.now term.now.0) ≤ 10 ^ 36 }
-    ensures { result ≡ term.now.1 *ℤ entry x.now term.now.0 }
+    requires small { unsigned_abs (term.now.1 *ℤ coordinate x.now term.now.0) ≤ 10 ^ 36 }
+    ensures { result ≡ term.now.1 *ℤ coordinate x.now term.now.0 }
 {
     term.1 * i128::from(x[term.0.index()])
 }

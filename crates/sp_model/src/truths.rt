@@ -3,7 +3,7 @@
 ghost use Rattle.std.specs.Prelude.{◌≡◌, ◌↔◌, ◌&&◌, ◌<◌, All, length, IsTrue};
 ghost use Rattle.std.specs.List.{list_all};
 ghost use Rattle.std.specs.Ordering.{int_eq};
-ghost use Rattle.sp_model.specs.Boxes.{IsWithin, entry};
+ghost use Rattle.sp_model.specs.Boxes.{IsWithin, coordinate};
 ghost use Rattle.sp_model.specs.Rules.{IsLawful};
 ghost use Rattle.sp_model.specs.Stated.{core_allows, core_holds, is_at_least, is_at_most};
 ghost use Rattle.sp_model.specs.Sums.{AreTermsSafe};
@@ -93,7 +93,7 @@ pub fn do_indicators_hold(indicators: &[Indicator], x: &[i64]) -> bool
 
 fn is_nonzero_at(x: &[i64], var: VarId) -> bool
     requires { var < length x.now }
-    ensures { result ≡ is_nonzero (entry x.now var) }
+    ensures { result ≡ is_nonzero (coordinate x.now var) }
 {
     x[var.index()] != 0
 }

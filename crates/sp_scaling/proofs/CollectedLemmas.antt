@@ -7,7 +7,7 @@ use Rattle.std.proofs.lemmas.Int.{ints}
 use Rattle.std.proofs.lemmas.List.Elements.{All-nil, All-cons, All-head, All-tail, All-weaker}
 use Rattle.std.proofs.lemmas.List.Kept.{AllPairs-cons}
 use Rattle.std.proofs.Math.Nat.{mul-le-mul_right}
-use Rattle.sp_model.specs.Boxes.{Bounds, range_at, entry}
+use Rattle.sp_model.specs.Boxes.{Bounds, range_at, coordinate}
 use Rattle.sp_model.specs.Models.{is_nonzero}
 use Rattle.sp_model.specs.Rules.{AreTermsLawful}
 use Rattle.sp_model.specs.Sums.{Term, reach, sum_at, width_over}

@@ -4,7 +4,7 @@ use Rattle.std.proofs.lemmas.Bool.{cases_lt}
 use Rattle.std.proofs.lemmas.List.{get_or_past}
 use Rattle.std.proofs.lemmas.Int.{ints}
 use Rattle.sp_model.specs.declared.parts.Row.{Row}
-use Rattle.sp_model.specs.Boxes.{Bounds, range_at, entry, IsBetween}
+use Rattle.sp_model.specs.Boxes.{Bounds, range_at, coordinate, IsBetween}
 use Rattle.sp_model.specs.Stated.{is_at_least, is_at_most}
 use Rattle.sp_model.specs.Sums.{Term, sum_at}
 use Rattle.sp_sums.specs.Extremes.{term_least, term_most, least_over, most_over, span_of, is_low, is_high}
@@ -69,9 +69,9 @@ record IsOne (r : ℤ × ℤ) (v : ℤ) : Type 0 where
   lower : r.0 ≡ v
   upper : r.1 ≡ v
 
-one_at : (b : Bounds) (x : List ℤ) (j : ℕ) → IsPointBox b x → IsOne (range_at b j) (entry x j)
+one_at : (b : Bounds) (x : List ℤ) (j : ℕ) → IsPointBox b x → IsOne (range_at b j) (coordinate x j)
 one_at b x j h = elim (cases_lt j (length b)) [
-  | inl l ↦ (let v : IsBetween (range_at b j) (entry x j) = h.within.each j l in let e = h.single j l in record { lower = omega (arith, ints, v.least, v.greatest); upper = omega (arith, ints, v.least, v.greatest) })
+  | inl l ↦ (let v : IsBetween (range_at b j) (coordinate x j) = h.within.each j l in let e = h.single j l in record { lower = omega (arith, ints, v.least, v.greatest); upper = omega (arith, ints, v.least, v.greatest) })
   | inr g ↦ (
       let g2 : length x ≤ j = omega (arith, h.within.long) in
       rw (get_or_past b j (pos 0, pos 0) g, get_or_past x j (pos 0) g2) record { lower = refl; upper = refl }
@@ -85,11 +85,11 @@ chosen_one false u v w h k = k
 pub least_point : (b : Bounds) (x : List ℤ) (ts : List Term) → IsPointBox b x → least_over b ts ≡ sum_at ts x
 least_point b x [] h = refl
 least_point b x (t ∷ ts) h =
-    let one : IsOne (range_at b t.0) (entry x t.0) = one_at b x t.0 h in
-    ap₂ (λ (u v : ℤ). u +ℤ v) (chosen_one (int_le (pos 0) t.1) (t.1 *ℤ (range_at b t.0).0) (t.1 *ℤ (range_at b t.0).1) (t.1 *ℤ entry x t.0) (ap (λ (z : ℤ). t.1 *ℤ z) one.lower) (ap (λ (z : ℤ). t.1 *ℤ z) one.upper)) (least_point b x ts h)
+    let one : IsOne (range_at b t.0) (coordinate x t.0) = one_at b x t.0 h in
+    ap₂ (λ (u v : ℤ). u +ℤ v) (chosen_one (int_le (pos 0) t.1) (t.1 *ℤ (range_at b t.0).0) (t.1 *ℤ (range_at b t.0).1) (t.1 *ℤ coordinate x t.0) (ap (λ (z : ℤ). t.1 *ℤ z) one.lower) (ap (λ (z : ℤ). t.1 *ℤ z) one.upper)) (least_point b x ts h)
 
 pub most_point : (b : Bounds) (x : List ℤ) (ts : List Term) → IsPointBox b x → most_over b ts ≡ sum_at ts x
 most_point b x [] h = refl
 most_point b x (t ∷ ts) h =
-    let one : IsOne (range_at b t.0) (entry x t.0) = one_at b x t.0 h in
-    ap₂ (λ (u v : ℤ). u +ℤ v) (chosen_one (int_le (pos 0) t.1) (t.1 *ℤ (range_at b t.0).1) (t.1 *ℤ (range_at b t.0).0) (t.1 *ℤ entry x t.0) (ap (λ (z : ℤ). t.1 *ℤ z) one.upper) (ap (λ (z : ℤ). t.1 *ℤ z) one.lower)) (most_point b x ts h)
+    let one : IsOne (range_at b t.0) (coordinate x t.0) = one_at b x t.0 h in
+    ap₂ (λ (u v : ℤ). u +ℤ v) (chosen_one (int_le (pos 0) t.1) (t.1 *ℤ (range_at b t.0).1) (t.1 *ℤ (range_at b t.0).0) (t.1 *ℤ coordinate x t.0) (ap (λ (z : ℤ). t.1 *ℤ z) one.upper) (ap (λ (z : ℤ). t.1 *ℤ z) one.lower)) (most_point b x ts h)

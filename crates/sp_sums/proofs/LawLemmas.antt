@@ -6,7 +6,7 @@ use Rattle.std.proofs.lemmas.List.Elements.{All-cons, All-append}
 use Rattle.std.proofs.lemmas.Int.{ints}
 use lib.IntN.{suc_ℤ-*ℤ, pred_ℤ-*ℤ, zero-*ℤ}
 use Rattle.sp_model.specs.declared.parts.Row.{Row}
-use Rattle.sp_model.specs.Boxes.{Bounds, range_at, entry, IsBetween, IsWithin}
+use Rattle.sp_model.specs.Boxes.{Bounds, range_at, coordinate, IsBetween, IsWithin}
 use Rattle.sp_model.specs.Models.{row_holds}
 use Rattle.sp_model.specs.Stated.{is_at_least, is_at_most}
 use Rattle.sp_model.specs.Sums.{Term, sum_at}
@@ -44,7 +44,7 @@ term-le-most (negsuc n) v r h = mul-ge n r.0 v h.least
 -- ---- sums at the points of a box
 
 -- also past the last variable, where the range is 0 to 0
-pub between_at : (b : Bounds) (x : List ℤ) (j : ℕ) → IsWithin b x → IsBetween (range_at b j) (entry x j)
+pub between_at : (b : Bounds) (x : List ℤ) (j : ℕ) → IsWithin b x → IsBetween (range_at b j) (coordinate x j)
 between_at b x j h = elim (cases_lt j (length b)) [
   | inl l ↦ h.each j l
   | inr g ↦ (
@@ -55,11 +55,11 @@ between_at b x j h = elim (cases_lt j (length b)) [
 
 least-le-sum : (b : Bounds) (ts : List Term) (x : List ℤ) → IsWithin b x → least_over b ts ≤ℤ sum_at ts x
 least-le-sum b [] x h = omega (arith, ints)
-least-le-sum b (t ∷ ts) x h = omega (arith, ints, least-le-sum b ts x h, least-le-term t.1 (entry x t.0) (range_at b t.0) (between_at b x t.0 h))
+least-le-sum b (t ∷ ts) x h = omega (arith, ints, least-le-sum b ts x h, least-le-term t.1 (coordinate x t.0) (range_at b t.0) (between_at b x t.0 h))
 
 sum-le-most : (b : Bounds) (ts : List Term) (x : List ℤ) → IsWithin b x → sum_at ts x ≤ℤ most_over b ts
 sum-le-most b [] x h = omega (arith, ints)
-sum-le-most b (t ∷ ts) x h = omega (arith, ints, sum-le-most b ts x h, term-le-most t.1 (entry x t.0) (range_at b t.0) (between_at b x t.0 h))
+sum-le-most b (t ∷ ts) x h = omega (arith, ints, sum-le-most b ts x h, term-le-most t.1 (coordinate x t.0) (range_at b t.0) (between_at b x t.0 h))
 
 pub spanned : (b : Bounds) (ts : List Term) → IsSpanned b ts
 spanned b ts = record { least = least-le-sum b ts; most = sum-le-most b ts }
@@ -91,7 +91,7 @@ low_pick a r h = (chosen_between (int_le (pos 0) a) r h).0
 high_pick : IsPick high_end
 high_pick a r h = (chosen_between (int_le (pos 0) a) r h).1
 
-corner_step : (g : ℤ → ℤ × ℤ → ℤ) → IsPick g → (b : Bounds) → IsFilled b → (x : List ℤ) → IsWithin b x → (t : Term) (j : ℕ) (c : Bool) → nat_eq t.0 j ≡ c → j < length b → IsBetween (range_at b j) (entry (set x t.0 (g t.1 (range_at b t.0))) j)
+corner_step : (g : ℤ → ℤ × ℤ → ℤ) → IsPick g → (b : Bounds) → IsFilled b → (x : List ℤ) → IsWithin b x → (t : Term) (j : ℕ) (c : Bool) → nat_eq t.0 j ≡ c → j < length b → IsBetween (range_at b j) (coordinate (set x t.0 (g t.1 (range_at b t.0))) j)
 corner_step g p b f x w t j true e h =
     let same : t.0 ≡ j = same_number t.0 j e in
     let inside : j < length x = omega (arith, w.long) in
@@ -324,7 +324,7 @@ column_is root rows j l = record {
   exact = column_exact j rows;
 }
 
--- an entry of a column is the only one of its row
+-- an coordinate of a column is the only one of its row
 only : (cs : List ℤ) (a : ℤ) → length cs ≤ 1 → Contains cs a → cs ≡ a ∷ []
 only [] a l h = absurd (Contains-none a h)
 only (c ∷ []) a l h = elim (Contains-cons_cases c [] a h) [

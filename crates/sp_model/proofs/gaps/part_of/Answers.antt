@@ -3,7 +3,7 @@ use Rattle.std.specs.Int.{w128, int_min}
 use Rattle.std.proofs.lemmas.Int.{ints}
 use Rattle.sp_model.specs.declared.gaps.Gap.{Gap}
 use Rattle.sp_model.specs.declared.gaps.Gap.TheVariants.{Of}
-use Rattle.sp_model.specs.Cuts.{ceiling, part, least_of, IsGap}
+use Rattle.sp_model.specs.Cuts.{ceiling, cut_by, least_of, IsGap}
 use Rattle.sp_model.proofs.CutLemmas.{power_positive, power_bound, part_is}
 use Rattle.sp_model.proofs.gaps.part_of.Goals as goal
 
@@ -23,4 +23,4 @@ returns-in-Of c =
     let fits : FitsSigned w128 c.min.result = search rules in
     to_z-of_z fits ∙ c.min.ensures.value ∙ ap (λ z. int_min z ceiling) sum
     ∙ part_is c.args.best.now c.in-Of.p c.in-Of.s c.args.base c.quotient-reach.result c.requires.near reach
-    ∙ ap (λ (g : Gap). least_of (part c.args.best.now g c.args.base) ceiling) (sym c.in-Of.is)
+    ∙ ap (λ (g : Gap). least_of (cut_by c.args.best.now g c.args.base) ceiling) (sym c.in-Of.is)

@@ -1,4 +1,5 @@
-\ A blend of whole batches, in the whole LP format: the program doesn't read it yet.
+\ How many whole batches of two feeds to buy. Each batch of the first has 0.30 units of protein, each of the second .42,
+\ and 1.2 are needed; the fibre has to stay between two sides; delivery costs 12.
 Minimize
  cost: 2.5 batches_a + 3.75 batches_b + 12
 Subject To

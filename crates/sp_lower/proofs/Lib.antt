@@ -1,7 +1,10 @@
 pub mod BoundLemmas
 pub mod CompareLemmas
 pub mod FaultLemmas
+pub mod LawfulLemmas
 pub mod LengthLemmas
 pub mod LowerLemmas
+pub mod MemoryLemmas
 pub mod PassedLemmas
 pub mod SetLemmas
+pub mod StatedLemmas

@@ -24,7 +24,7 @@ pub or_parts : (a b : Option LowerRefusal) → option_or a b ≡ None → (a ≡
 or_parts None b h = (refl, h)
 or_parts (Some r) b h = cc
 
-if_none : (b : Bool) (r : LowerRefusal) (o : Option LowerRefusal) → (if b then Some r else o) ≡ None → (b ≡ false) × (o ≡ None)
+pub if_none : (b : Bool) (r : LowerRefusal) (o : Option LowerRefusal) → (if b then Some r else o) ≡ None → (b ≡ false) × (o ≡ None)
 if_none true r o h = cc
 if_none false r o h = (refl, h)
 
@@ -87,7 +87,7 @@ size-le-width b (t ∷ ts) =
     let more = mul-le-mul_left {m = 1} {n = n} (unsigned_abs t.1) one in
     omega (arith, size-le-width b ts)
 
-not_false : (b : Bool) → not b ≡ false → b ≡ true
+pub not_false : (b : Bool) → not b ≡ false → b ≡ true
 not_false true h = refl
 not_false false h = cc
 
@@ -107,10 +107,10 @@ tame_row b row h =
 closing_is : (row : DraftRow) → is_tame row ≡ true → closing_row row ≡ model_row row
 closing_is row h = rw h refl
 
-narrow_row : (b : Bounds) (k : ℕ) (row : DraftRow) → row_fault b k row ≡ None → is_wide b row ≡ false
+pub narrow_row : (b : Bounds) (k : ℕ) (row : DraftRow) → row_fault b k row ≡ None → is_wide b row ≡ false
 narrow_row b k row h = (if_none (is_wide b row) _ _ h).0
 
-wide_none : (a : Bool) (r : LowerRefusal) → (if a then None else Some r) ≡ None → a ≡ true
+pub wide_none : (a : Bool) (r : LowerRefusal) → (if a then None else Some r) ≡ None → a ≡ true
 wide_none true r h = refl
 wide_none false r h = cc
 
@@ -122,7 +122,7 @@ not_true : (b : Bool) → not b ≡ true → b ≡ false
 not_true true h = cc
 not_true false h = refl
 
-narrow_indicator : (b : Bounds) (k : ℕ) (i : DraftIndicator) → indicator_fault b k i ≡ None → is_wide b i.row ≡ false
+pub narrow_indicator : (b : Bounds) (k : ℕ) (i : DraftIndicator) → indicator_fault b k i ≡ None → is_wide b i.row ≡ false
 narrow_indicator b k i h = not_true (is_wide b i.row) (and_right_true (is_binary (range_at b i.var)) (not (is_wide b i.row)) (wide_none _ _ h))
 
 same_rows : (b : Bounds) (rows : List DraftRow) → All (λ row. is_wide b row ≡ false) rows → map closing_row rows ≡ map model_row rows

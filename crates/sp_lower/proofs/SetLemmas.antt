@@ -346,7 +346,7 @@ ordered_vars xs ys h r =
 differ_test : (v w : ℕ) → (v ≡ w → ⊥) → (v == w) ≡ false
 differ_test v w h = elim (cases_Bool (v == w)) [ inl t ↦ absurd (h (eqb-true v w t)) | inr f ↦ f ]
 
-or_parts : (a b : Bool) → (a || b) ≡ false → (a ≡ false) × (b ≡ false)
+pub or_parts : (a b : Bool) → (a || b) ≡ false → (a ≡ false) × (b ≡ false)
 or_parts true b h = cc
 or_parts false b h = (refl, h)
 

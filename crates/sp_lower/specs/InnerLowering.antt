@@ -1,5 +1,7 @@
 -- The steps of lowering that functions share.
 use Rattle.std.specs.Prelude.{◌≡◌, ◌⊎◌, ◌≤◌, List, map, Option, Some}
+use Rattle.sp_model.specs.Limits.{greatest_scale}
+use Rattle.sp_model.specs.Rules.{IsLawful}
 use Rattle.std.specs.Option.{option_or}
 use Rattle.sp_model.specs.declared.parts.Indicator.{Indicator}
 use Rattle.sp_model.specs.declared.refusal.BuildRefusal.{BuildRefusal}
@@ -16,7 +18,7 @@ use Rattle.sp_lower.specs.declared.refusals.LowerRefusal.{LowerRefusal}
 use Rattle.sp_lower.specs.declared.refusals.LowerRefusal.TheVariants as refused
 use Rattle.sp_lower.specs.Faults.{first_fault, count_fault, variable_fault, objective_fault, row_fault, indicator_fault, set_fault}
 use Rattle.sp_lower.specs.Objectives.{objective_places, cost_terms, whole_constants, model_cost, model_constant}
-use Rattle.sp_lower.specs.Lowering.{outline, box_of, open_fault}
+use Rattle.sp_lower.specs.Lowering.{outline, box_of, open_fault, model_of}
 use Rattle.sp_lower.specs.Rows.{closing_row}
 
 -- the counts and the variables
@@ -30,6 +32,21 @@ box_fault b d = option_or (objective_fault b d) (option_or (first_fault (row_fau
 -- there was no memory, or this is the refusal
 abbrev pub Refuses : Option LowerRefusal → LowerRefusal → Type 0
 Refuses fault r = (r ≡ refused.NoMemory) ⊎ (fault ≡ Some r)
+
+-- the parts are a model's, as decimals have at most 30 places
+abbrev pub MakesModel : Draft → Type 0
+MakesModel d = objective_places d.cost d.constants ≤ greatest_scale → IsLawful (model_of d)
+
+-- a variable is open, or there was no memory
+abbrev pub IsOpening : BuildRefusal → Type 0
+IsOpening (build.Open j) = Unit {0}
+IsOpening build.NoMemory = Unit {0}
+IsOpening build.Variables = ⊥
+IsOpening (build.Bound j) = ⊥
+IsOpening build.Objective = ⊥
+IsOpening (build.Row k) = ⊥
+IsOpening (build.Indicator k) = ⊥
+IsOpening (build.Sos k) = ⊥
 
 -- why a box isn't closed, in the words of drafts
 abbrev pub opened : BuildRefusal → LowerRefusal

@@ -5,6 +5,7 @@ mod bounds;
 mod cores;
 mod counts;
 mod faults;
+mod laws;
 mod lowering;
 mod objectives;
 mod refusals;
@@ -13,5 +14,6 @@ mod sets;
 mod sides;
 mod variables;
 
+pub use laws::lowered_parts_are_lawful;
 pub use lowering::lower;
 pub use refusals::{LowerRefusal, What};

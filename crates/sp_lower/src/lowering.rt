@@ -1,21 +1,23 @@
 //! Drafts lowered: the model that one stands for, or the first thing in it that no model has.
-ghost use Rattle.std.specs.Prelude.{◌≡◌, ◌≤◌, ◌⊎◌, All, length, map, None, Some, IfOk, IfErr, MatchOption, true, false};
+ghost use Rattle.std.specs.Prelude.{◌≡◌, ◌≤◌, ◌⊎◌, All, length, map, None, Some, Err, IfOk, IfErr, IfSome, MatchOption, true, false};
 ghost use Rattle.std.specs.Option.{option_or};
 ghost use Rattle.sp_draft.specs.Drafts.{IsWellFormed, AreKnown};
 ghost use Rattle.sp_model.specs.Models.{root_of};
 ghost use Rattle.sp_model.specs.Rounds.{rounded};
-ghost use Rattle.sp_model.specs.Rules.{HasClosedBox};
+ghost use Rattle.sp_model.specs.Limits.{greatest_scale};
+ghost use Rattle.sp_model.specs.Rules.{AreBoundsLawful, HasClosedBox, IsLawful};
 ghost use Rattle.sp_lower.specs.Bounds.{has_far_bound};
 ghost use Rattle.sp_lower.specs.Faults.{first_fault, count_fault, variable_fault, objective_fault, row_fault, indicator_fault, set_fault};
 ghost use Rattle.sp_lower.specs.Lowering.{outline, box_of, open_fault, model_indicator, refusal_of, model_of};
-ghost use Rattle.sp_lower.specs.InnerLowering.{early_fault, box_fault, Refuses, opened, closing_indicator, boxed_fault, late_fault, filled, IsNarrowObjective};
-ghost use Rattle.sp_lower.specs.Objectives.{is_wide_objective, model_cost};
+ghost use Rattle.sp_lower.specs.InnerLowering.{early_fault, box_fault, Refuses, MakesModel, IsOpening, opened, closing_indicator, boxed_fault, late_fault, filled, IsNarrowObjective};
+ghost use Rattle.sp_lower.specs.Objectives.{objective_places, is_wide_objective, model_cost};
 ghost use Rattle.sp_lower.specs.Rows.{is_tame, closing_row};
 ghost use Rattle.sp_lower.specs.Sets.{is_bad_set, model_set};
 
 use crate::cores::{cores, lower_bounds, upper_bounds};
 use crate::counts::count_fault;
 use crate::faults::{first_indicator_fault, first_row_fault};
+use crate::laws::lowered_parts_are_lawful;
 use crate::objectives::{is_wide_objective, model_constant, objective_places};
 use crate::refusals::LowerRefusal;
 use crate::rows::closing_row;
@@ -74,25 +76,26 @@ fn outline(alloc: Global, draft: &Draft) -> Result<ModelParts, NoMemory>
     })
 }
 
-/// Why a box isn't closed, in the words of drafts: a variable stays open, or there was no memory. The other refusals are of
-/// parts that no draft gives that has come so far.
+/// Why a box isn't closed, in the words of drafts: a variable stays open, or there was no memory.
 fn opened(refusal: BuildRefusal) -> LowerRefusal
+    requires { IsOpening refusal }
     ensures { result ≡ opened refusal }
 {
     match refusal {
         BuildRefusal::Open(var) => LowerRefusal::OpenVariable(var),
-        BuildRefusal::NoMemory
-        | BuildRefusal::Variables
-        | BuildRefusal::Bound(_)
-        | BuildRefusal::Objective
-        | BuildRefusal::Row(_)
-        | BuildRefusal::Indicator(_)
-        | BuildRefusal::Sos(_) => LowerRefusal::NoMemory,
+        BuildRefusal::NoMemory => LowerRefusal::NoMemory,
+        BuildRefusal::Variables => unreachable!(),
+        BuildRefusal::Bound(_) => unreachable!(),
+        BuildRefusal::Objective => unreachable!(),
+        BuildRefusal::Row(_) => unreachable!(),
+        BuildRefusal::Indicator(_) => unreachable!(),
+        BuildRefusal::Sos(_) => unreachable!(),
     }
 }
 
 /// The closed box, or the first variable that stays open.
 fn closed_root(alloc: Global, parts: &ModelParts) -> Result<BoxOf, LowerRefusal>
+    requires { AreBoundsLawful parts.now }
     ensures closed { IfOk result (λ root. (root ≡ root_of parts.now) × HasClosedBox parts.now × (length root ≡ length parts.now.lower)) }
     ensures none { IfOk result (λ root. first_fault open_fault 0 (rounded parts.now) ≡ None) }
     ensures refused { IfErr result (Refuses (first_fault open_fault 0 (rounded parts.now))) }
@@ -179,7 +182,8 @@ fn filled(
     sos: Items<Sos>,
 ) -> Result<ModelParts, NoMemory>
     requires { IsNarrowObjective draft.now.cost draft.now.constants }
-    ensures { IfOk result (λ made. made ≡ filled draft.now parts sos) }
+    ensures made { IfOk result (λ made. made ≡ filled draft.now parts sos) }
+    ensures few { objective_places draft.now.cost draft.now.constants ≤ greatest_scale }
 {
     let places = objective_places(draft.cost.as_slice(), draft.constants.as_slice());
     let cost = collected(alloc, draft.cost.as_slice(), places, draft.maximize)?;
@@ -194,14 +198,15 @@ fn filled(
     Ok(made)
 }
 
-/// The model of the parts. They are those of a model, so nothing but want of memory refuses them.
+/// The model of the parts, which nothing but want of memory refuses.
 fn built(alloc: Global, parts: ModelParts) -> Result<Model, LowerRefusal>
+    requires { IsLawful parts }
     ensures same { IfOk result (λ m. m ≡ parts) }
     ensures refused { IfErr result (λ r. r ≡ LowerRefusal.NoMemory) }
 {
     match Model::build(alloc, parts) {
         Ok(model) => Ok(model),
-        Err(_) => Err(LowerRefusal::NoMemory),
+        Err(refusal) => Err(opened(refusal)),
     }
 }
 
@@ -215,6 +220,7 @@ fn finished(
     requires parts { parts ≡ outline draft.now }
     requires passed { box_fault (box_of draft.now) draft.now ≡ None }
     requires sets { sos ≡ map model_set draft.now.sos }
+    requires lawful { MakesModel draft.now }
     ensures same { IfOk result (λ m. m ≡ model_of draft.now) }
     ensures refused { IfErr result (λ r. r ≡ LowerRefusal.NoMemory) }
 {
@@ -229,6 +235,7 @@ fn with_sets(alloc: Global, draft: &Draft, parts: ModelParts) -> Result<Model, L
     requires parts { parts ≡ outline draft.now }
     requires passed { box_fault (box_of draft.now) draft.now ≡ None }
     requires few { length draft.now.sos ≤ 1000 }
+    requires lawful { first_fault set_fault 0 draft.now.sos ≡ None → MakesModel draft.now }
     ensures good { IfOk result (λ m. (first_fault set_fault 0 draft.now.sos ≡ None) × (m ≡ model_of draft.now)) }
     ensures refused { IfErr result (Refuses (first_fault set_fault 0 draft.now.sos)) }
 {
@@ -250,6 +257,7 @@ fn with_root(
     requires parts { parts ≡ outline draft.now }
     requires root { root.now ≡ box_of draft.now }
     requires long { length root.now ≡ length draft.now.vars }
+    requires lawful { boxed_fault draft.now ≡ None → MakesModel draft.now }
     ensures good { IfOk result (λ m. (boxed_fault draft.now ≡ None) × (m ≡ model_of draft.now)) }
     ensures refused { IfErr result (Refuses (boxed_fault draft.now)) }
 {
@@ -264,6 +272,7 @@ fn with_parts(alloc: Global, draft: &Draft, parts: ModelParts) -> Result<Model, 
     requires formed { IsWellFormed draft.now }
     requires early { early_fault draft.now ≡ None }
     requires parts { parts ≡ outline draft.now }
+    requires lawful { late_fault draft.now ≡ None → MakesModel draft.now }
     ensures good { IfOk result (λ m. (late_fault draft.now ≡ None) × (m ≡ model_of draft.now)) }
     ensures refused { IfErr result (Refuses (late_fault draft.now)) }
 {
@@ -277,6 +286,7 @@ fn with_parts(alloc: Global, draft: &Draft, parts: ModelParts) -> Result<Model, 
 fn with_outline(alloc: Global, draft: &Draft) -> Result<Model, LowerRefusal>
     requires formed { IsWellFormed draft.now }
     requires early { early_fault draft.now ≡ None }
+    requires lawful { late_fault draft.now ≡ None → MakesModel draft.now }
     ensures good { IfOk result (λ m. (late_fault draft.now ≡ None) × (m ≡ model_of draft.now)) }
     ensures refused { IfErr result (Refuses (late_fault draft.now)) }
 {
@@ -299,7 +309,11 @@ pub fn lower(alloc: Global, draft: &Draft) -> Result<Model, LowerRefusal>
     requires { IsWellFormed draft.now }
     ensures good { IfOk result (λ m. (refusal_of draft.now ≡ None) × (m ≡ model_of draft.now)) }
     ensures refused { IfErr result (λ r. (r ≡ LowerRefusal.NoMemory) ⊎ (refusal_of draft.now ≡ Some r)) }
+
+    // A count or a variable is refused before memory is taken.
+    ensures early { IfSome (option_or (count_fault draft.now) (first_fault variable_fault 0 draft.now.vars)) (λ r. result ≡ Err r) }
 {
+    lowered_parts_are_lawful();
     match early_fault(draft) {
         Some(fault) => Err(fault),
         None => with_outline(alloc, draft),

@@ -119,7 +119,7 @@ pub splits-reopened : (cut : ℤ) (held : ℕ → Bool) (nodes : List Node) → 
 splits-reopened cut held [] = refl
 splits-reopened cut held (n ∷ nodes) = rw (chosen-split n (is_reopened cut held n) (opened-no_split cut held n.kind), splits-reopened cut held nodes) refl
 
-node-reopened : (cut : ℤ) (held : ℕ → Bool) (nodes : List Node) (i : ℕ) → i < length nodes → node_at (map (reopened cut held) nodes) i ≡ reopened cut held (node_at nodes i)
+pub node-reopened : (cut : ℤ) (held : ℕ → Bool) (nodes : List Node) (i : ℕ) → i < length nodes → node_at (map (reopened cut held) nodes) i ≡ reopened cut held (node_at nodes i)
 node-reopened cut held [] i h = absurd (omega (arith, h))
 node-reopened cut held (n ∷ nodes) zero h = refl
 node-reopened cut held (n ∷ nodes) (suc i) h = node-reopened cut held nodes i (omega (arith, h))

@@ -1,9 +1,11 @@
 pub mod TotalLemmas
 pub mod ListLemmas
 pub mod TableLemmas
+pub mod IndexLemmas
 pub mod TreeLemmas
 pub mod GrowLemmas
 pub mod KeepLemmas
 pub mod PathLemmas
 pub mod SweepLemmas
 pub mod LicenceLemmas
+pub mod FinalLemmas

@@ -42,7 +42,7 @@ stays-licensed cut held (Bounded bound) h e = inr (test-above bound.least cut h)
 stays-licensed cut held (Screened filter) h e = inr (not-held (held filter) h)
 stays-licensed cut held (Point serial) h e = inr tt
 
-chosen-no : (n : Node) (c : Bool) → c ≡ false → cond {A = Node} c (opened n) n ≡ n
+pub chosen-no : (n : Node) (c : Bool) → c ≡ false → cond {A = Node} c (opened n) n ≡ n
 chosen-no n c h = rw h refl
 
 chosen-yes : (n : Node) (c : Bool) → c ≡ true → cond {A = Node} c (opened n) n ≡ opened n

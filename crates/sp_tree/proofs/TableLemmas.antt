@@ -1,10 +1,10 @@
 -- A table with one more list.
-use Rattle.std.proofs.Common.{◌≡◌, ◌≢◌, ℕ, ◌+◌, ◌<◌, ◌≤◌, inl, inr, List, [], ◌∷◌, ◌++◌, length, Contains, refl, sym, ◌∙◌, arith, length-append}
-use Rattle.std.proofs.lemmas.List.{get_or_append_left}
+use Rattle.std.proofs.Common.{◌≡◌, ◌≢◌, ℕ, ◌+◌, ◌<◌, ◌≤◌, inl, inr, List, [], ◌∷◌, ◌++◌, length, Contains, refl, sym, ap, ◌∙◌, arith, length-append}
+use Rattle.std.proofs.lemmas.List.{get_or_append_left, map-append}
 use Rattle.std.proofs.lemmas.Bool.{cases_lt}
 use Rattle.sp_dual.specs.Lists.{MultiplierList, zero_list}
 use Rattle.sp_tree.specs.Tables.{list_at, table_weight, IsTable, IsPlaceOf}
-use Rattle.sp_tree.specs.InnerTables.{IsKeptTable}
+use Rattle.sp_tree.specs.InnerTables.{print_of, IsKeptTable}
 use Rattle.sp_tree.proofs.ListLemmas.{default-any, item-last}
 
 weight-append : (ms : List MultiplierList) (m : MultiplierList) → table_weight (ms ++ (m ∷ [])) ≡ table_weight ms + (length m.y + 1)
@@ -42,13 +42,15 @@ table-more ms m t new light =
       light = omega (arith, weighs, light);
     }
 
-pub kept-more : (ms : List MultiplierList) (weight : ℕ) (m : MultiplierList) → IsKeptTable ms weight → ¬ Contains ms m → weight + (length m.y + 1) ≤ 8000000 → IsKeptTable (ms ++ (m ∷ [])) (weight + (length m.y + 1))
-kept-more ms weight m k new light =
+pub kept-more : (ms : List MultiplierList) (weight : ℕ) (prints : List ℕ) (m : MultiplierList) → IsKeptTable ms weight prints → ¬ Contains ms m → weight + (length m.y + 1) ≤ 8000000
+    → IsKeptTable (ms ++ (m ∷ [])) (weight + (length m.y + 1)) (prints ++ (print_of m ∷ []))
+kept-more ms weight prints m k new light =
     let weighed = k.weighed in
     let weighs = weight-append ms m in
     record {
       table = table-more ms m k.table new (omega (arith, weighed, light));
       weighed = omega (arith, weighed, weighs);
+      printed = ap (λ l. l ++ (print_of m ∷ [])) k.printed ∙ sym (map-append print_of ms (m ∷ []));
     }
 
 pub placed : (ms : List MultiplierList) (m : MultiplierList) → ¬ Contains ms m → IsPlaceOf m ms (ms ++ (m ∷ [])) (length ms)

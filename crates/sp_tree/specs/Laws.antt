@@ -41,6 +41,20 @@ pub record Extends (old new : TreeOf) : Type 0 where
   pub boxes : (i : ℕ) → i < length old.nodes → box_at new.boxes i ≡ box_at old.boxes i
   pub nodes : (i : ℕ) → i < length old.nodes → Lasts (node_at old.nodes i) (node_at new.nodes i)
 
+-- a node that no call changes: a split, a dead leaf, a point leaf
+abbrev pub IsFinal : Kind → Type 0
+IsFinal (Split var at left right) = Unit {0}
+IsFinal Open = ⊥
+IsFinal (Dead reason) = Unit {0}
+IsFinal (Bounded bound) = ⊥
+IsFinal (Screened filter) = ⊥
+IsFinal (Point serial) = Unit {0}
+
+-- each final node of the old list stands in the new one as it was, its mark too
+pub record KeepsFinal (old new : List Node) : Type 0 where
+  pub known : length old ≤ length new
+  pub same : (i : ℕ) → i < length old → IsFinal (node_at old i).kind → node_at new i ≡ node_at old i
+
 -- a mark on the way from a node up to the root, its own node included
 pub data HasMark (nodes : List Node) : ℕ → Type 0 where
   own : {i : ℕ} → IsSome (node_at nodes i).mark → HasMark nodes i

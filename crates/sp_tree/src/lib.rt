@@ -3,6 +3,7 @@
 
 mod cuts;
 mod ids;
+mod indexes;
 mod nodes;
 mod paths;
 mod refusals;
@@ -15,5 +16,8 @@ pub use ids::NodeId;
 pub use nodes::{Bound, Kind, Node};
 pub use refusals::SplitRefusal;
 pub use tables::Keep;
-pub use tree_laws::{extensions_last, reopening_spares_licensed, trees_divide};
+pub use tree_laws::{
+    complete_trees_stay_closed, extensions_last, final_nodes_stay, reopening_spares_licensed,
+    trees_divide,
+};
 pub use trees::Tree;

@@ -9,6 +9,7 @@ use sp_activity::Reason;
 use sp_filter::{FilterId, Filters};
 use sp_model::{NoMemory, VarId};
 use std::alloc::Global;
+use std::mem::size_of;
 
 /// A bound on the values of a box's feasible points, and the list of multipliers that gives it.
 #[derive(Clone, Copy, Debug)]
@@ -53,6 +54,8 @@ pub struct Node {
     /// What it is.
     pub kind: Kind,
 }
+
+const _: () = prove!(size_of::<Node>() <= 96);
 
 impl Node {
     /// Whether it is an open leaf.

@@ -1,10 +1,12 @@
 //! The table of lists of multipliers, each of which stands there once.
 
-ghost use Rattle.std.specs.Prelude.{◌≡◌, ◌≢◌, ◌↔◌, ◌^◌, ◌<◌, ℕ, [], ◌∷◌, length, Contains, Ok, IfOk, OnErr, MatchOption};
+ghost use Rattle.std.specs.Prelude.{◌≡◌, ◌≢◌, ◌↔◌, ◌^◌, ◌<◌, ℕ, [], ◌∷◌, length, Contains, Ok, IfOk, OnErr, MatchOption, IsOk};
 ghost use Rattle.sp_dual.specs.Lists.{zero_list};
 ghost use Rattle.sp_tree.specs.Tables.{list_at, IsTable, IsPrefix, IsTooHeavy, Keeps};
+ghost use Rattle.sp_tree.specs.InnerTables.{print_of};
 ghost use Rattle.sp_tree.specs.declared.tables.Keep.TheVariants as Keep;
 
+use crate::indexes::{Index, fingerprint};
 use sp_dual::Multipliers;
 use sp_model::NoMemory;
 use std::alloc::Global;
@@ -27,6 +29,7 @@ pub enum Keep {
 pub struct Table {
     lists: Vec<Multipliers>,
     weight: u32,
+    index: Index,
 }
 
 impl Model for Table {
@@ -39,7 +42,7 @@ impl Model for Table {
 
     ghost view = { λ t. t.lists.items };
 
-    ghost invariant = { λ t. IsKeptTable t.lists.items t.weight };
+    ghost invariant = { λ t. IsKeptTable t.lists.items t.weight t.index };
 }
 
 impl Table {
@@ -47,9 +50,16 @@ impl Table {
     pub fn new(alloc: Global) -> Result<Table, NoMemory>
         ensures { IfOk result (λ t. t ≡ zero_list ∷ []) }
     {
+        let zero = Multipliers::zero(alloc);
+        let mut index = Index::new(alloc)?;
+        index.add(fingerprint(&zero))?;
         let mut lists = Vec::new(alloc);
-        lists.push(Multipliers::zero(alloc))?;
-        Ok(Table { lists, weight: 1 })
+        lists.push(zero)?;
+        Ok(Table {
+            lists,
+            weight: 1,
+            index,
+        })
     }
 
     /// The lists by their places.
@@ -65,19 +75,22 @@ impl Table {
     pub fn keep(&mut self, list: Multipliers) -> Result<Keep, NoMemory>
         ensures ok { IfOk result (λ kept. Keeps list self.old self.new kept) }
         ensures full { (result ≡ Ok Keep.Full) ↔ IsTooHeavy self.old list }
+        ensures there { Contains self.old list → IsOk result }
         ensures err { OnErr result (self.new ≡ self.old) }
         ensures longer { IsPrefix self.old self.new }
         ensures table { IsTable self.new }
     {
-        match place_of(self.lists.as_slice(), &list) {
+        let print = fingerprint(&list);
+        match self.index.find(print, self.lists.as_slice(), &list) {
             Some(place) => Ok(Keep::At(place)),
-            None => self.add(list),
+            None => self.add(list, print),
         }
     }
 
     /// Adds a list that isn't there, unless that makes the table too heavy.
-    fn add(&mut self, list: Multipliers) -> Result<Keep, NoMemory>
-        requires { ¬ Contains self.old list }
+    fn add(&mut self, list: Multipliers, print: u32) -> Result<Keep, NoMemory>
+        requires new { ¬ Contains self.old list }
+        requires print { print ≡ print_of list }
         ensures ok { IfOk result (λ kept. Keeps list self.old self.new kept) }
         ensures full { (result ≡ Ok Keep.Full) ↔ IsTooHeavy self.old list }
         ensures err { OnErr result (self.new ≡ self.old) }
@@ -89,23 +102,10 @@ impl Table {
             return Ok(Keep::Full);
         }
         let place = self.lists.len() as u32;
-        self.lists.push(list)?;
+        self.lists.reserve(1)?;
+        self.index.add(print)?;
+        self.lists.push_reserved(list);
         self.weight += weight;
         Ok(Keep::At(place))
     }
-}
-
-/// The place of the list.
-fn place_of(lists: &[Multipliers], list: &Multipliers) -> Option<u32>
-    requires { length lists.now < 2 ^ 32 }
-    ensures { MatchOption result
-        (¬ Contains lists.now list.now)
-        (λ place. (place < length lists.now) × (list_at lists.now place ≡ list.now)) }
-{
-    for place in 0..lists.len() {
-        if lists[place].is_equal(list) {
-            return Some(place as u32);
-        }
-    }
-    None
 }

@@ -1,10 +1,10 @@
 //! Laws of every tree: each is the contract of a function that does nothing.
 
-ghost use Rattle.std.specs.Prelude.{◌≡◌, ◌≤◌, ◌<◌, ◌⊎◌, ℕ, ℤ, Bool, Some, None, length};
+ghost use Rattle.std.specs.Prelude.{◌≡◌, ◌≢◌, ◌↔◌, ◌≤◌, ◌<◌, ◌⊎◌, ℕ, ℤ, Bool, List, Some, None, length, map};
 ghost use Rattle.sp_model.specs.Boxes.{point_count, room};
-ghost use Rattle.sp_tree.specs.Laws.{IsPartition, Extends, HasMark};
+ghost use Rattle.sp_tree.specs.Laws.{IsPartition, Extends, KeepsFinal, HasMark};
 ghost use Rattle.sp_tree.specs.Splits.{box_at};
-ghost use Rattle.sp_tree.specs.Trees.{TreeOf, splits, split_of, IsGrown, IsLicensed, reopened};
+ghost use Rattle.sp_tree.specs.Trees.{TreeOf, node_at, splits, split_of, IsGrown, IsLicensed, IsComplete, reopened};
 ghost use Rattle.sp_tree.specs.declared.nodes.Bound.{Bound};
 ghost use Rattle.sp_tree.specs.declared.nodes.Node.{Node};
 ghost use Rattle.sp_tree.specs.declared.nodes.Kind.TheVariants as Kind;
@@ -36,4 +36,16 @@ pub fn extensions_last()
     ensures same { (t : TreeOf) → Extends t t }
     ensures joined { (a b c : TreeOf) → Extends a b → Extends b c → Extends a c }
     ensures marks { (a b : TreeOf) → Extends a b → (i : ℕ) → i < length a.nodes → HasMark a.nodes i → HasMark b.nodes i }
+{}
+
+/// A tree is complete exactly where none of its leaves is open and a reopening leaves each node as it is.
+pub fn complete_trees_stay_closed()
+    ensures { (cut : ℤ) (held : ℕ → Bool) (nodes : List Node) → IsComplete cut held nodes
+        ↔ (((i : ℕ) → i < length nodes → (node_at nodes i).kind ≢ Kind.Open) × (map (reopened cut held) nodes ≡ nodes)) }
+{}
+
+/// A final node stays as it is over all later calls.
+pub fn final_nodes_stay()
+    ensures same { (nodes : List Node) → KeepsFinal nodes nodes }
+    ensures joined { (a b c : List Node) → KeepsFinal a b → KeepsFinal b c → KeepsFinal a c }
 {}

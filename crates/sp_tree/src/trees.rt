@@ -1,11 +1,11 @@
 //! The tree and its calls.
 
-ghost use Rattle.std.specs.Prelude.{◌≡◌, ◌≢◌, ◌↔◌, ◌+◌, ◌<◌, ℕ, length, map, count_by, IsTrue, Ok, Err, IfOk, OnErr, IsNone, IfSome, IfNone};
+ghost use Rattle.std.specs.Prelude.{◌≡◌, ◌≢◌, ◌↔◌, ◌+◌, ◌<◌, ℕ, length, map, count_by, Contains, IsTrue, Ok, Err, IfOk, IsOk, OnErr, IsNone, IfSome, IfNone};
 ghost use Rattle.sp_model.specs.Boxes.{point_count, CanSplit};
 ghost use Rattle.sp_tree.specs.Splits.{box_at, parts_at, IsChild};
 ghost use Rattle.sp_tree.specs.Tables.{IsTooHeavy, Keeps};
 ghost use Rattle.sp_tree.specs.Trees.{TreeOf, node_at, splits, IsGrown, new_tree, SplitsNode, IsClosing, with_kind, is_held, IsComplete, reopened, is_reopened};
-ghost use Rattle.sp_tree.specs.Laws.{Extends};
+ghost use Rattle.sp_tree.specs.Laws.{Extends, KeepsFinal};
 ghost use Rattle.sp_tree.specs.declared.nodes.Kind.TheVariants as Kind;
 ghost use Rattle.sp_tree.specs.declared.tables.Keep.TheVariants as Keep;
 ghost use Rattle.sp_tree.specs.declared.refusals.SplitRefusal.TheVariants as SplitRefusal;
@@ -133,6 +133,7 @@ impl Tree {
         requires closing { IsClosing self.old.lists (box_at self.old.boxes id) kind }
         ensures closed { self.new ≡ with_kind self.old id kind }
         ensures extends { Extends self.old self.new }
+        ensures settled { KeepsFinal self.old.nodes self.new.nodes }
         ensures grown { IsGrown self.new }
     {
         self.nodes[id.index()].kind = kind;
@@ -147,6 +148,7 @@ impl Tree {
         ensures lists { self.new.lists ≡ self.old.lists }
         ensures count { result ≡ count_by (is_reopened cut (is_held filters.now)) self.old.nodes }
         ensures extends { Extends self.old self.new }
+        ensures settled { KeepsFinal self.old.nodes self.new.nodes }
         ensures grown { IsGrown self.new }
     {
         let count = reopen_all(self.nodes.as_mut_slice(), &cut, filters);
@@ -161,8 +163,10 @@ impl Tree {
         ensures nodes { self.new.nodes ≡ self.old.nodes }
         ensures ok { IfOk result (λ kept. Keeps list self.old.lists self.new.lists kept) }
         ensures full { (result ≡ Ok Keep.Full) ↔ IsTooHeavy self.old.lists list }
+        ensures there { Contains self.old.lists list → IsOk result }
         ensures err { OnErr result (self.new ≡ self.old) }
         ensures extends { Extends self.old self.new }
+        ensures settled { KeepsFinal self.old.nodes self.new.nodes }
         ensures grown { IsGrown self.new }
     {
         self.table.keep(list)
@@ -184,6 +188,7 @@ impl Tree {
         ensures limit { (result ≡ Err SplitRefusal.NodeLimit) ↔ (node_limit < length self.old.nodes + 2) }
         ensures err { OnErr result (self.new ≡ self.old) }
         ensures extends { Extends self.old self.new }
+        ensures settled { KeepsFinal self.old.nodes self.new.nodes }
         ensures grown { IsGrown self.new }
     {
         let size = self.nodes.len() as u32;

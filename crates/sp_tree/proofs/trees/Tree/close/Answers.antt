@@ -5,6 +5,7 @@ use Rattle.sp_tree.specs.Trees.{node_at, open_node, IsClosing}
 use Rattle.sp_tree.specs.InnerTrees.{IsKept, boxes_of}
 use Rattle.sp_tree.proofs.ListLemmas.{default-any}
 use Rattle.sp_tree.proofs.KeepLemmas.{kept-closed}
+use Rattle.sp_tree.proofs.FinalLemmas.{keeps-set}
 use Rattle.sp_tree.proofs.trees.Tree.close.Goals as goal
 
 kept : (c : goal.After-self-2-1) → IsKept c.self.inside.root c.self.inside.cuts.items (slice_set c.self.inside.nodes.items c.index.result (record { mark = c.index_mut.result.now.mark; kind = c.args.kind })) c.self.inside.table c.first_open-self-inside.result
@@ -23,3 +24,9 @@ invariant_of-self c = kept c
 
 pub returns-clause-grown : goal.returns-clause-grown
 returns-clause-grown c = (kept c).grown
+
+pub returns-clause-settled : goal.returns-clause-settled
+returns-clause-settled c =
+    let here : c.index.result ≡ c.args.id = c.index.ensures in
+    let is : (node_at c.self.inside.nodes.items c.args.id).kind ≡ Open = rw (← c.self.view_is) at c.requires.is_open in
+    rw (← c.self.view_is, here) (keeps-set c.self.inside.nodes.items c.args.id (record { mark = c.index_mut.result.now.mark; kind = c.args.kind }) is)

@@ -4,6 +4,7 @@ use Rattle.std.proofs.lemmas.List.{length-map}
 use Rattle.sp_tree.specs.Trees.{reopened, is_held}
 use Rattle.sp_tree.specs.InnerTrees.{IsKept, boxes_of}
 use Rattle.sp_tree.proofs.KeepLemmas.{kept-reopened, extends-reopened, written-back}
+use Rattle.sp_tree.proofs.FinalLemmas.{keeps-reopened}
 use Rattle.sp_tree.proofs.trees.Tree.reopen.Goals as goal
 
 swept : (c : goal.After-self-2-1) → take c.self.inside.nodes.len (c.reopen_all-count.new.nodes ++ drop (length c.reopen_all-count.new.nodes) c.self.inside.nodes.items) ≡ map (reopened c.args.cut (is_held c.args.filters.now)) c.self.inside.nodes.items
@@ -30,3 +31,6 @@ pub returns-clause-extends : goal.returns-clause-extends
 returns-clause-extends c =
     rw (← c.self.view_is, swept c)
     (extends-reopened (boxes_of c.self.inside.root c.self.inside.cuts.items) c.self.inside.nodes.items c.self.inside.table c.args.cut (is_held c.args.filters.now))
+
+pub returns-clause-settled : goal.returns-clause-settled
+returns-clause-settled c = rw (← c.self.view_is, swept c) (keeps-reopened c.args.cut (is_held c.args.filters.now) c.self.inside.nodes.items)

@@ -8,6 +8,7 @@ use Rattle.sp_tree.proofs.ListLemmas.{default-any}
 use Rattle.sp_tree.proofs.TreeLemmas.{length-splits}
 use Rattle.sp_tree.proofs.GrowLemmas.{kept-more, splits-made, boxes-push}
 use Rattle.sp_tree.proofs.KeepLemmas.{extends-more}
+use Rattle.sp_tree.proofs.FinalLemmas.{keeps-more}
 use Rattle.sp_tree.proofs.trees.Tree.split.Goals as goal
 
 nodes-are : (c : goal.After-self-2-1) → c.push_two_open.new.nodes.items ≡ slice_set c.self.inside.nodes.items c.args.id (record { mark = c.index_mut.result.now.mark; kind = Split c.args.var c.args.at c.new-left.result c.new-right.result }) ++ (open_node ∷ open_node ∷ [])
@@ -71,3 +72,8 @@ returns-clause-extends c =
 
 pub returns-clause-grown : goal.returns-clause-grown
 returns-clause-grown c = (kept c).grown
+
+pub returns-clause-settled : goal.returns-clause-settled
+returns-clause-settled c =
+    rw (← c.self.view_is, nodes-are c)
+    (keeps-more c.self.inside.nodes.items (open_node ∷ open_node ∷ []) c.args.id (record { mark = c.index_mut.result.now.mark; kind = Split c.args.var c.args.at c.new-left.result c.new-right.result }) (is-open c))

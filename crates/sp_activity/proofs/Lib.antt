@@ -1,10 +1,14 @@
+pub mod BoxLemmas
+pub mod FilledLemmas
 pub mod InsideLemmas
 pub mod KeptLemmas
 pub mod NamedLemmas
 pub mod OrderLemmas
 pub mod PairLemmas
+pub mod PathLemmas
 pub mod PointLemmas
 pub mod ReadyLemmas
+pub mod SideLemmas
 pub mod StepLemmas
 pub mod TruthLemmas
 pub mod UsesLemmas

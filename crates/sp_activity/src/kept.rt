@@ -2,10 +2,11 @@
 
 ghost use Rattle.std.specs.Prelude.{◌≡◌, ◌↔◌, slice_set, IfOk, IsTrue, MatchOption};
 ghost use Rattle.sp_model.specs.Models.{root_of};
-ghost use Rattle.sp_sums.specs.Ranges.{IsChange, IsFilled};
+ghost use Rattle.sp_sums.specs.Ranges.{IsChange, IsFilled, IsInside};
 ghost use Rattle.sp_activity.specs.Kept.{IsKeptOf, bounds_of};
 ghost use Rattle.sp_activity.specs.Order.{IsFirst, IsOpen};
 ghost use Rattle.sp_activity.specs.Stages.{IsOpenToIndicators, IsOpenToRows, IsOpenToSets, IsReady};
+ghost use Rattle.sp_activity.specs.Within.{IsUnder};
 
 use crate::broken::{Broken, settle};
 use crate::closing::{gate_reason, row_reason};
@@ -47,6 +48,18 @@ impl Kept {
     pub fn bounds(&self) -> &BoxOf
         ensures { result.now ≡ bounds_of self.now }
     {
+        self.rows.bounds()
+    }
+
+    /// The box, which lies within the model's closed box and isn't empty.
+    pub fn bounds_in(&self, model: &Model) -> &BoxOf
+        requires { IsKeptOf model.now self.now }
+        ensures same { result.now ≡ bounds_of self.now }
+        ensures inside { IsInside (root_of model.now) result.now }
+        ensures under { IsUnder (root_of model.now) result.now }
+    {
+        let _model = model;
+        let _root = self.rows.root();
         self.rows.bounds()
     }
 

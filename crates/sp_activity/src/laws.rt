@@ -1,11 +1,11 @@
 //! Laws of reasons: each is the contract of a function that does nothing of its own.
 
-ghost use Rattle.std.specs.Prelude.{List, ℤ};
-ghost use Rattle.sp_model.specs.Boxes.{Bounds, IsWithin};
+ghost use Rattle.std.specs.Prelude.{◌↔◌, ◌<◌, List, ℤ};
+ghost use Rattle.sp_model.specs.Boxes.{Bounds, IsWithin, point_count};
 ghost use Rattle.sp_model.specs.Models.{Feasible, root_of};
 ghost use Rattle.sp_model.specs.Rules.{IsLawful};
 ghost use Rattle.sp_model.specs.declared.parts.ModelParts.{ModelParts};
-ghost use Rattle.sp_sums.specs.Ranges.{IsInside, IsPointBox};
+ghost use Rattle.sp_sums.specs.Ranges.{IsFilled, IsInside, IsPointBox};
 ghost use Rattle.sp_activity.specs.Order.{IsOpen};
 ghost use Rattle.sp_activity.specs.Reasons.{Holds};
 ghost use Rattle.sp_activity.specs.Within.{IsUnder};
@@ -35,3 +35,8 @@ pub fn open_points_are_feasible()
     sums_meet_at_a_point();
     feasible_is_tested();
 }
+
+/// A law: no range of a box is empty exactly where the box has points.
+pub fn boxes_with_points_are_filled()
+    ensures { (b : Bounds) → IsFilled b ↔ (0 < point_count b) }
+{}

@@ -1,0 +1,4 @@
+pub mod Numbers
+pub mod Cover
+pub mod Moves
+pub mod Listing

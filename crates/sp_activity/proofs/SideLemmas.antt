@@ -1,17 +1,17 @@
 -- A split that closes a side closes the least part of it.
-use Rattle.std.proofs.Common.{◌≡◌, ◌≢◌, ℕ, zero, suc, ◌+◌, ◌<◌, ◌≤◌, Bool, true, false, nat_eq, inl, inr, List, [], ◌∷◌, length, get_or, set, refl, sym, ap, ◌∙◌, subst, arith, ℤ, pos, ◌+ℤ◌, ◌-ℤ◌, ◌≤ℤ◌, ◌<ℤ◌, get_or-set_same, get_or-set_other}
+use Rattle.std.proofs.Common.{◌≡◌, ◌≢◌, ℕ, zero, suc, ◌<◌, Bool, true, false, nat_eq, [], ◌∷◌, length, set, refl, sym, ap, ◌∙◌, subst, arith, ℤ, pos, ◌+ℤ◌, ◌≤ℤ◌, ◌<ℤ◌, get_or-set_same, get_or-set_other}
 use Rattle.std.proofs.lemmas.Bool.Decides.{nat_tests}
 use Rattle.std.proofs.lemmas.Int.{ints}
 use Rattle.std.proofs.lemmas.List.{length-set, set-set, set-get_or}
 use Rattle.sp_model.specs.declared.parts.ModelParts.{ModelParts}
-use Rattle.sp_model.specs.Boxes.{Bounds, CanSplit, above, below, range_at}
-use Rattle.sp_sums.specs.Ranges.{IsChange, IsInside, IsPart}
+use Rattle.sp_model.specs.Boxes.{Bounds, above, below, range_at}
+use Rattle.sp_sums.specs.Ranges.{IsInside, IsPart}
 use Rattle.sp_activity.specs.declared.reasons.Reason.{Reason}
 use Rattle.sp_activity.specs.declared.sides.Side.{Side}
 use Rattle.sp_activity.specs.declared.sides.Side.TheVariants.{Left, Right}
 use Rattle.sp_activity.specs.Order.{IsOpen}
 use Rattle.sp_activity.specs.Reasons.{Holds}
-use Rattle.sp_activity.specs.Sides.{HasReason, IsLooseAt, IsTight, NothingTight, side_of}
+use Rattle.sp_activity.specs.Sides.{HasReason, IsLooseAt, IsTight, NothingTight}
 
 pub below-set : (b : Bounds) (v : ℕ) (at : ℤ) → below b v at ≡ set b v ((range_at b v).0, at)
 below-set [] v at = refl

@@ -1,5 +1,5 @@
 -- Paths from a box: each branch takes one part of a split, and can be taken back by the range that it changed.
-use Rattle.std.specs.Prelude.{◌≡◌, ℕ, cond, List, [], ◌∷◌, map, ℤ, pos, ◌+ℤ◌}
+use Rattle.std.specs.Prelude.{◌≡◌, cond, List, [], ◌∷◌, map, ℤ, pos, ◌+ℤ◌}
 use Rattle.sp_model.specs.Boxes.{Bounds, range_at, below, above, CanSplit}
 use Rattle.sp_activity.specs.declared.trails.Branch.{Branch}
 use Rattle.sp_activity.specs.declared.trails.Past.{Past}

@@ -1,5 +1,5 @@
 -- Places where a split closes one side.
-use Rattle.std.specs.Prelude.{◌≡◌, ℕ, ◌<◌, Bool, true, false, length, ℤ}
+use Rattle.std.specs.Prelude.{ℕ, Bool, true, false, ℤ}
 use Rattle.sp_model.specs.declared.parts.ModelParts.{ModelParts}
 use Rattle.sp_model.specs.Boxes.{Bounds, CanSplit, above, below}
 use Rattle.sp_activity.specs.declared.reasons.Reason.{Reason}

@@ -1,4 +1,3 @@
-use Rattle.std.proofs.Common.{◌≡◌}
 use Rattle.sp_activity.proofs.SideLemmas.{put_back}
 use Rattle.sp_activity.proofs.sides.is_closed_part.Goals as goal
 

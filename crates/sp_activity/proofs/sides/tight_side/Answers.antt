@@ -1,9 +1,8 @@
-use Rattle.std.proofs.Common.{◌≡◌, rules, FitsSigned, w64, to_z, of_z, to_z-of_z, ℤ, pos, ◌+ℤ◌, ◌-ℤ◌, ◌<ℤ◌, set, sym, ap, ◌∙◌, subst, arith}
+use Rattle.std.proofs.Common.{◌≡◌, rules, FitsSigned, w64, to_z, of_z, to_z-of_z, ℤ, pos, ◌+ℤ◌, ◌-ℤ◌, ◌<ℤ◌, set, ap, ◌∙◌, subst, arith}
 use Rattle.std.proofs.lemmas.Int.{ints}
-use Rattle.sp_model.specs.Boxes.{Bounds, range_at}
+use Rattle.sp_model.specs.Boxes.{range_at}
 use Rattle.sp_model.specs.Models.{root_of}
 use Rattle.sp_activity.specs.Order.{IsOpen}
-use Rattle.sp_activity.specs.Sides.{HasReason}
 use Rattle.sp_activity.proofs.SideLemmas.{loose_at, tight_left, tight_right}
 use Rattle.sp_activity.proofs.sides.tight_side.Goals as goal
 

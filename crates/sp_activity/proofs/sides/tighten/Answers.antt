@@ -1,4 +1,4 @@
-use Rattle.std.proofs.Common.{◌≡◌, ◌<◌, length, arith}
+use Rattle.std.proofs.Common.{arith}
 use Rattle.sp_activity.proofs.SideLemmas.{all_loose}
 use Rattle.sp_activity.proofs.sides.tighten.Goals as goal
 

@@ -1,6 +1,5 @@
 use Rattle.std.proofs.Common.{◌≡◌, ◌<◌, length, get_or, sym, ap, ◌∙◌, arith}
-use Rattle.std.proofs.lemmas.List.{get_or_read, take_more_same, length-map, get_or-map}
-use Rattle.sp_activity.specs.declared.trails.Branch.{Branch}
+use Rattle.std.proofs.lemmas.List.{take_more_same, length-map, get_or-map}
 use Rattle.sp_activity.specs.declared.trails.Past.{Past}
 use Rattle.sp_activity.specs.Paths.{branches}
 use Rattle.sp_activity.proofs.trails.shared_front.Goals as goal

@@ -1,4 +1,3 @@
-use Rattle.std.proofs.Common.{◌≡◌}
 use Rattle.sp_activity.specs.Kept.{bounds_of}
 use Rattle.sp_activity.proofs.SideLemmas.{put_back}
 use Rattle.sp_activity.proofs.kept.Kept.is_closed_part.Goals as goal

@@ -1,5 +1,4 @@
-use Rattle.std.proofs.Common.{◌≡◌, ◌<◌, length, ap, ◌∙◌, arith}
-use Rattle.sp_model.specs.Boxes.{Bounds}
+use Rattle.std.proofs.Common.{◌≡◌, length, ap, arith}
 use Rattle.sp_activity.specs.Kept.{bounds_of}
 use Rattle.sp_activity.proofs.SideLemmas.{all_loose}
 use Rattle.sp_activity.proofs.kept.Kept.tighten.Goals as goal

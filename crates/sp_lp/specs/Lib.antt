@@ -1,6 +1,9 @@
 pub mod Cursors
+pub mod InnerAnswers
+pub mod InnerKinds
 pub mod Numerals
 pub mod Refusals
+pub mod Standins
 pub mod States
 pub mod Stops
 pub mod Walks

@@ -17,7 +17,7 @@ use sp_lp_words::{Class, Pair, Part, Section};
 use std::alloc::Global;
 
 /// Whether it is a colon or a double colon.
-fn is_colon(class: &Class) -> bool
+pub(crate) fn is_colon(class: &Class) -> bool
     ensures { result ≡ is_colon class.now }
 {
     match class {
@@ -28,7 +28,7 @@ fn is_colon(class: &Class) -> bool
 }
 
 /// Whether it is the second part of the section word.
-fn is_second(pair: Pair, class: &Class) -> bool
+pub(crate) fn is_second(pair: Pair, class: &Class) -> bool
     ensures { result ≡ is_second pair class.now }
 {
     match pair {

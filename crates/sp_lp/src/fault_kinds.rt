@@ -1,14 +1,17 @@
 //! What is wrong with a token that can't stand where it stands: which other token in its place, or in the place of one
 //! before it, would go on.
-ghost use Rattle.std.specs.Prelude.{◌≤◌, ◌<◌, ◌^◌, length, All};
+ghost use Rattle.std.specs.Prelude.{◌≡◌, ◌≤◌, ◌+◌, length, IfOk, All};
+ghost use Rattle.sp_lp_tokens.specs.SeenTokens.{all_seen};
 ghost use Rattle.sp_lp_tokens.specs.Tokens.{IsSpan};
+ghost use Rattle.sp_lp.specs.Refusals.{marks_from, name_stands};
+ghost use Rattle.sp_lp.specs.InnerKinds.{is_number_part, is_wide_here, is_wide_before, is_known_set, is_known_label, is_known_opening, is_duplicate, fault_kind};
 
-use crate::cursor::TokenReader;
-use crate::stops::Stop;
-use crate::walking::{Stopped, read_tokens};
-use sp_decimal::{Decimal, Numeral};
-use sp_lp_tokens::{Symbol, Token, TokenKind};
-use sp_lp_words::{Class, Pair, Part, Section, Tables, set_kind_of};
+use crate::other_tokens::{Other, goes_with};
+use crate::standing::{
+    colon_stands_at, huge_stands_at, is_unsupported_at, name_stands_at, set_kind_stands_at,
+};
+use sp_lp_tokens::Token;
+use sp_lp_words::Tables;
 use sp_model::NoMemory;
 use std::alloc::Global;
 
@@ -27,337 +30,242 @@ pub enum FaultKind {
     Unsupported,
 }
 
-/// A token in the place of another one.
-#[derive(Clone, Copy, PartialEq, Eq, Debug)]
-enum Instead {
-    /// A name that no file has, since it is longer than any.
-    Name,
-    /// The number 1.
-    One,
-    /// `:`
-    Colon,
-    /// The kind of a set.
-    SetWord,
-    /// `end`, on a line of its own.
-    End,
-}
-
-/// A name that is longer than any in a file: 256 bytes.
-const LONG_NAME: [u8; 256] = [b'x'; 256];
-
-/// What the token is.
-fn class_of(instead: Instead) -> Class {
-    match instead {
-        Instead::Name => Class::Name(None),
-        Instead::One => Class::Number(Numeral::Exact(Decimal { p: 1, s: 0 })),
-        Instead::Colon => Class::Colon,
-        Instead::SetWord => Class::Name(None),
-        Instead::End => Class::Name(Some(Part::Whole(Section::End))),
-    }
-}
-
-/// Whether the reader goes on with these tokens, of which the first one begins its line or not.
-fn takes<'a>(
-    reader: &mut TokenReader<'a>,
-    first: bool,
-    others: &[Instead],
-    name: &'a [u8],
-    set_word: &'a [u8],
-) -> Result<bool, NoMemory> {
-    let mut first = first;
-    for other in others {
-        let class = class_of(*other);
-        let text = match *other {
-            Instead::SetWord => set_word,
-            _ => name,
-        };
-        let begins = first || *other == Instead::End;
-        match reader.take(begins, &class, text) {
-            Ok(()) => first = false,
-            Err(Stop::Fault) => return Ok(false),
-            Err(Stop::Memory) => return Err(NoMemory),
-        }
-    }
-    Ok(true)
-}
-
-/// Whether some file begins with the tokens and these others behind them, of which the first one begins its line or not.
-fn goes_on<'a>(
-    alloc: Global,
-    source: &'a [u8],
-    front: &[Token],
-    first: bool,
-    others: &[Instead],
-    name: &'a [u8],
-    set_word: &'a [u8],
-) -> Result<bool, NoMemory>
-    requires { All (IsSpan source.now) front.now }
+/// Whether a name stands behind the place.
+fn name_stands_behind(tables: &Tables, source: &[u8], list: &[Token], place: usize) -> bool
+    requires spans { All (IsSpan source.now) list.now }
+    ensures { result ≡ name_stands (marks_from (all_seen source.now list.now) (place + 1)) }
 {
-    let mut reader = TokenReader::new(alloc);
-    match read_tokens(source, front, &mut reader) {
-        Ok(()) => takes(&mut reader, first, others, name, set_word),
-        Err(Stopped::Memory) => Err(NoMemory),
-        Err(_) => Ok(false),
+    if place < list.len() {
+        name_stands_at(tables, source, list, place + 1)
+    } else {
+        false
     }
 }
 
-/// What the token at the place is, if there is one.
-fn class_at(tables: &Tables, source: &[u8], list: &[Token], place: usize) -> Option<Class>
-    requires { All (IsSpan source.now) list.now }
-{
-    match list.get(place) {
-        Some(token) => Some(tables.class_of(source, token, place == 0)),
-        None => None,
-    }
-}
-
-/// Whether the token at the place is the first of its line.
-fn begins_line(list: &[Token], place: usize) -> bool {
-    match list.get(place) {
-        Some(token) => match list.get(place.wrapping_sub(1)) {
-            Some(before) => before.line < token.line,
-            None => true,
-        },
-        None => false,
-    }
-}
-
-/// Whether a colon or a double colon stands at the place.
-fn is_colon_at(tables: &Tables, source: &[u8], list: &[Token], place: usize) -> bool
-    requires { All (IsSpan source.now) list.now }
-{
-    match class_at(tables, source, list, place) {
-        Some(Class::Colon) => true,
-        Some(Class::DoubleColon) => true,
-        _ => false,
-    }
-}
-
-/// Whether the second part of the section word stands at the place, on the line of the first.
-fn is_second_at(tables: &Tables, source: &[u8], list: &[Token], pair: Pair, place: usize) -> bool
-    requires { All (IsSpan source.now) list.now }
-{
-    match class_at(tables, source, list, place) {
-        Some(Class::Name(Some(Part::Closes(closed)))) => {
-            closed == pair && !begins_line(list, place)
-        }
-        _ => false,
-    }
-}
-
-/// The section whose word counts at the place.
-fn heading_at(tables: &Tables, source: &[u8], list: &[Token], place: usize) -> Option<Section>
-    requires { All (IsSpan source.now) list.now }
-{
-    let next = place.saturating_add(1);
-    if !begins_line(list, place) {
-        return None;
-    }
-    match class_at(tables, source, list, place) {
-        Some(Class::Name(Some(Part::Whole(section)))) => {
-            if is_colon_at(tables, source, list, next) {
-                None
-            } else {
-                Some(section)
-            }
-        }
-        Some(Class::Name(Some(Part::Semi))) => {
-            if is_colon_at(tables, source, list, next) {
-                None
-            } else {
-                Some(Section::Semi)
-            }
-        }
-        Some(Class::Name(Some(Part::Opens(pair)))) => {
-            if is_second_at(tables, source, list, pair, next)
-                && !is_colon_at(tables, source, list, next.saturating_add(1))
-            {
-                Some(pair.section())
-            } else {
-                None
-            }
-        }
-        _ => None,
-    }
-}
-
-/// Whether a name stands at the place that is no word of a section.
-fn is_name_at(tables: &Tables, source: &[u8], list: &[Token], place: usize) -> bool
-    requires { All (IsSpan source.now) list.now }
-{
-    match class_at(tables, source, list, place) {
-        Some(Class::Name(_)) => heading_at(tables, source, list, place).is_none(),
-        _ => false,
-    }
-}
-
-/// Whether a huge number stands at the place.
-fn is_huge_at(tables: &Tables, source: &[u8], list: &[Token], place: usize) -> bool
-    requires { All (IsSpan source.now) list.now }
-{
-    match class_at(tables, source, list, place) {
-        Some(Class::Number(number)) => match number {
-            Numeral::Exact(_) => false,
-            Numeral::Huge { .. } => true,
-        },
-        _ => false,
-    }
-}
-
-/// Whether `user cuts` counts at the place.
-fn is_cuts_at(tables: &Tables, source: &[u8], list: &[Token], place: usize) -> bool
-    requires { All (IsSpan source.now) list.now }
-{
-    match heading_at(tables, source, list, place) {
-        Some(Section::Cuts) => true,
-        _ => false,
-    }
-}
-
-/// Whether the token at the place is one that the format has and that isn't supported.
-fn is_unsupported_at(tables: &Tables, source: &[u8], list: &[Token], place: usize) -> bool
-    requires { All (IsSpan source.now) list.now }
-{
-    let kind = match list.get(place) {
-        Some(token) => token.kind,
-        None => TokenKind::Name,
-    };
-    kind == TokenKind::Symbol(Symbol::LeftBracket)
-        || kind == TokenKind::Symbol(Symbol::DoubleArrow)
-        || is_cuts_at(tables, source, list, place)
-        || 0 < place && is_cuts_at(tables, source, list, place - 1)
-}
-
-/// Whether some file begins with the tokens before the place and these others.
-fn goes_on_at(
-    alloc: Global,
-    source: &[u8],
-    list: &[Token],
-    place: usize,
-    others: &[Instead],
-) -> Result<bool, NoMemory>
-    requires { All (IsSpan source.now) list.now }
-{
-    let first = begins_line(list, place);
-    match list.get(..place) {
-        None => Ok(false),
-        Some(front) => goes_on(alloc, source, front, first, others, &LONG_NAME, b"s1"),
-    }
-}
-
-/// What is wrong with a huge number at the place.
-fn number_fault(
+/// Whether a number at the place would be a constant, a weight, or the coefficient of the name behind it.
+fn is_number_part(
     alloc: Global,
     tables: &Tables,
     source: &[u8],
     list: &[Token],
     place: usize,
-) -> Result<FaultKind, NoMemory>
-    requires { All (IsSpan source.now) list.now }
+) -> Result<bool, NoMemory>
+    requires spans { All (IsSpan source.now) list.now }
+    requires within { place ≤ length list.now }
+    ensures { IfOk result (λ is. is ≡ is_number_part (all_seen source.now list.now) place) }
 {
-    if goes_on_at(alloc, source, list, place, &[Instead::One, Instead::End])? {
-        return Ok(FaultKind::Wide);
+    if goes_with(
+        alloc,
+        tables,
+        source,
+        list,
+        place,
+        &[Other::Number, Other::Plus],
+    )? {
+        return Ok(true);
     }
-    if is_name_at(tables, source, list, place.saturating_add(1))
-        && goes_on_at(alloc, source, list, place, &[Instead::One])?
-    {
-        return Ok(FaultKind::Wide);
+    if goes_with(
+        alloc,
+        tables,
+        source,
+        list,
+        place,
+        &[Other::Number, Other::Name, Other::Colon],
+    )? {
+        return Ok(true);
     }
-    Ok(FaultKind::Syntax)
-}
-
-/// What is wrong with a name at the place, which is no word of a section that counts.
-fn name_fault(
-    alloc: Global,
-    tables: &Tables,
-    source: &[u8],
-    list: &[Token],
-    place: usize,
-) -> Result<FaultKind, NoMemory>
-    requires { All (IsSpan source.now) list.now }
-{
-    let before = place.wrapping_sub(1);
-    let first = place.wrapping_sub(2);
-    if is_huge_at(tables, source, list, before)
-        && goes_on_at(alloc, source, list, before, &[Instead::One, Instead::Name])?
-    {
-        return Ok(FaultKind::WideBefore);
-    }
-    if goes_on_at(alloc, source, list, place, &[Instead::Name, Instead::Colon])? {
-        return Ok(FaultKind::Duplicate);
-    }
-    if is_kind_at(source, list, place)
-        && is_colon_at(tables, source, list, before)
-        && is_name_at(tables, source, list, first)
-        && goes_on_at(
+    if name_stands_behind(tables, source, list, place) {
+        goes_with(
             alloc,
+            tables,
             source,
             list,
-            first,
-            &[Instead::Name, Instead::Colon, Instead::SetWord],
-        )?
-    {
-        return Ok(FaultKind::Duplicate);
-    }
-    Ok(FaultKind::Syntax)
-}
-
-/// Whether the kind of a set stands at the place.
-fn is_kind_at(source: &[u8], list: &[Token], place: usize) -> bool
-    requires { All (IsSpan source.now) list.now }
-{
-    match list.get(place) {
-        Some(token) => set_kind_of(token.text(source)).is_some(),
-        None => false,
+            place,
+            &[Other::Number, Other::Name],
+        )
+    } else {
+        Ok(false)
     }
 }
 
-/// What is wrong with a colon at the place.
-fn colon_fault(
+/// Whether at the place is a huge number that is a constant, a weight or a coefficient.
+fn is_wide_here(
     alloc: Global,
     tables: &Tables,
     source: &[u8],
     list: &[Token],
     place: usize,
-) -> Result<FaultKind, NoMemory>
-    requires { All (IsSpan source.now) list.now }
+) -> Result<bool, NoMemory>
+    requires spans { All (IsSpan source.now) list.now }
+    requires within { place ≤ length list.now }
+    ensures { IfOk result (λ is. is ≡ is_wide_here (all_seen source.now list.now) place) }
 {
-    let before = place.wrapping_sub(1);
-    if is_name_at(tables, source, list, before)
-        && goes_on_at(
+    if huge_stands_at(tables, source, list, place) {
+        is_number_part(alloc, tables, source, list, place)
+    } else {
+        Ok(false)
+    }
+}
+
+/// Whether at the place is the name of which the huge number before it is the coefficient.
+fn is_wide_before(
+    alloc: Global,
+    tables: &Tables,
+    source: &[u8],
+    list: &[Token],
+    place: usize,
+) -> Result<bool, NoMemory>
+    requires spans { All (IsSpan source.now) list.now }
+    requires within { place ≤ length list.now }
+    ensures { IfOk result (λ is. is ≡ is_wide_before (all_seen source.now list.now) place) }
+{
+    let number = place.saturating_sub(1);
+    if !name_stands_at(tables, source, list, place) {
+        return Ok(false);
+    }
+    if huge_stands_at(tables, source, list, number) {
+        goes_with(
             alloc,
+            tables,
             source,
             list,
-            before,
-            &[Instead::Name, Instead::Colon],
-        )?
-    {
-        return Ok(FaultKind::Duplicate);
+            number,
+            &[Other::Number, Other::Name],
+        )
+    } else {
+        Ok(false)
     }
-    Ok(FaultKind::Syntax)
+}
+
+/// Whether at the place is the name of a set that is there already.
+fn is_known_set(
+    alloc: Global,
+    tables: &Tables,
+    source: &[u8],
+    list: &[Token],
+    place: usize,
+) -> Result<bool, NoMemory>
+    requires spans { All (IsSpan source.now) list.now }
+    requires within { place ≤ length list.now }
+    ensures { IfOk result (λ is. is ≡ is_known_set (all_seen source.now list.now) place) }
+{
+    if name_stands_at(tables, source, list, place) {
+        goes_with(
+            alloc,
+            tables,
+            source,
+            list,
+            place,
+            &[Other::Name, Other::Colon],
+        )
+    } else {
+        Ok(false)
+    }
+}
+
+/// Whether at the place is a colon that ends a name that is there already.
+fn is_known_label(
+    alloc: Global,
+    tables: &Tables,
+    source: &[u8],
+    list: &[Token],
+    place: usize,
+) -> Result<bool, NoMemory>
+    requires spans { All (IsSpan source.now) list.now }
+    requires within { place ≤ length list.now }
+    ensures { IfOk result (λ is. is ≡ is_known_label (all_seen source.now list.now) place) }
+{
+    let name = place.saturating_sub(1);
+    if !colon_stands_at(tables, source, list, place) {
+        return Ok(false);
+    }
+    if name_stands_at(tables, source, list, name) {
+        goes_with(
+            alloc,
+            tables,
+            source,
+            list,
+            name,
+            &[Other::Name, Other::Colon],
+        )
+    } else {
+        Ok(false)
+    }
+}
+
+/// Whether at the place is the kind of a set behind a name and a colon, and the name is there already.
+fn is_known_opening(
+    alloc: Global,
+    tables: &Tables,
+    source: &[u8],
+    list: &[Token],
+    place: usize,
+) -> Result<bool, NoMemory>
+    requires spans { All (IsSpan source.now) list.now }
+    requires within { place ≤ length list.now }
+    ensures { IfOk result (λ is. is ≡ is_known_opening (all_seen source.now list.now) place) }
+{
+    let colon = place.saturating_sub(1);
+    let name = place.saturating_sub(2);
+    if !set_kind_stands_at(tables, source, list, place) {
+        return Ok(false);
+    }
+    if !colon_stands_at(tables, source, list, colon) {
+        return Ok(false);
+    }
+    if name_stands_at(tables, source, list, name) {
+        let others = [Other::Name, Other::Colon, Other::SetKind];
+        goes_with(alloc, tables, source, list, name, &others)
+    } else {
+        Ok(false)
+    }
+}
+
+/// Whether another name could stand where a name, or one that ends there, can't.
+fn is_duplicate(
+    alloc: Global,
+    tables: &Tables,
+    source: &[u8],
+    list: &[Token],
+    place: usize,
+) -> Result<bool, NoMemory>
+    requires spans { All (IsSpan source.now) list.now }
+    requires within { place ≤ length list.now }
+    ensures { IfOk result (λ is. is ≡ is_duplicate (all_seen source.now list.now) place) }
+{
+    if is_known_set(alloc, tables, source, list, place)? {
+        return Ok(true);
+    }
+    if is_known_label(alloc, tables, source, list, place)? {
+        return Ok(true);
+    }
+    is_known_opening(alloc, tables, source, list, place)
 }
 
 /// What is wrong with the token at the place, which can't stand there; behind the last one nothing else is.
+#[tactic(auto, unfolding(crate::specs::InnerKinds::fault_kind))]
 pub(crate) fn fault_kind(
     alloc: Global,
     source: &[u8],
     list: &[Token],
     place: usize,
 ) -> Result<FaultKind, NoMemory>
-    requires { All (IsSpan source.now) list.now }
+    requires spans { All (IsSpan source.now) list.now }
+    requires within { place ≤ length list.now }
+    ensures { IfOk result (λ kind. kind ≡ fault_kind (all_seen source.now list.now) place) }
 {
     let tables = Tables::new();
     if is_unsupported_at(&tables, source, list, place) {
         return Ok(FaultKind::Unsupported);
     }
-    if is_huge_at(&tables, source, list, place) {
-        return number_fault(alloc, &tables, source, list, place);
+    if is_wide_here(alloc, &tables, source, list, place)? {
+        return Ok(FaultKind::Wide);
     }
-    if is_name_at(&tables, source, list, place) {
-        return name_fault(alloc, &tables, source, list, place);
+    if is_wide_before(alloc, &tables, source, list, place)? {
+        return Ok(FaultKind::WideBefore);
     }
-    match class_at(&tables, source, list, place) {
-        Some(Class::Colon) => colon_fault(alloc, &tables, source, list, place),
-        _ => Ok(FaultKind::Syntax),
+    if is_duplicate(alloc, &tables, source, list, place)? {
+        return Ok(FaultKind::Duplicate);
     }
+    Ok(FaultKind::Syntax)
 }

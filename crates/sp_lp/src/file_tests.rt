@@ -19,7 +19,7 @@ fn answer_of(alloc: Global, file: &[u8]) -> u64 {
 }
 
 /// Files beside their answers.
-const FILES: [(&[u8], u64); 36] = [
+const FILES: [(&[u8], u64); 46] = [
     (b"", 11),
     (b"\xff", 11),
     (b"Minimize\nobj: x\nend", 0),
@@ -68,6 +68,16 @@ const FILES: [(&[u8], u64); 36] = [
         b"min\nlazy constraints\nx >= 1\nsuch that\ns.t.\ny < 2\nend\n| what comes later isn't read",
         0,
     ),
+    (b"min 1e30\nend", 12),
+    (b"min\nst\nc: 1e30\nst : x\nend", 32),
+    (b"min\nst\nc: 1e30\nst\nend", 41),
+    (b"min\nst\n3 <= inf x\nend", 32),
+    (b"min\nst\n3 <= inf\nend", 31),
+    (b"min\nst\nc: x <= 1\nc : y = 1 -> z <= 1\nend", 43),
+    (b"min\nuser cuts : 1", 21),
+    (b"min\nsos\nuser: S1 :: x : 1\nsos\nuser cuts\nend", 54),
+    (b"min\nsos\nuser: S1 :: x : 1\nsos\nuser\ncuts\nend", 53),
+    (b"min\nsos\ns1: S1 :: x : 1\nsos\ns1 : S2 ::", 53),
 ];
 
 #[test]

@@ -6,35 +6,19 @@ ghost use Rattle.sp_lp_tokens.specs.Limits.{most_bytes};
 ghost use Rattle.sp_lp_tokens.specs.SeenTokens.{all_seen};
 ghost use Rattle.sp_lp_tokens.specs.Tokens.{IsSpan};
 ghost use Rattle.sp_lp_grammar.specs.Reads.{Lp, LpOf};
-ghost use Rattle.sp_lp.specs.Refusals.{no_token, fault_line, refusal_of, IsRefusalAt, IsListRefusal, IsOnlyAnswer, IsRefused};
+ghost use Rattle.sp_draft.specs.declared.read_refusals.ReadRefusal.{ReadRefusal};
+ghost use Rattle.sp_lp.specs.Refusals.{refusal_of, IsListRefusal, IsRefused};
+ghost use Rattle.sp_lp.specs.InnerKinds.{fault_kind};
+ghost use Rattle.sp_lp.specs.InnerAnswers.{refusal_by, IsOnlyAnswer};
 
 use crate::fault_kinds::{FaultKind, fault_kind};
+use crate::lp_laws::files_have_one_answer;
+use crate::other_tokens::fault_line;
 use crate::walking::{Stopped, draft_of};
 use sp_draft::{Draft, ReadRefusal};
 use sp_lp_grammar::{files_mean_one_draft, fronts_begin_files, readers_tell_files};
-use sp_lp_tokens::{Token, TokenKind, TokenKindFault, TokenRefusal, tokens, tokens_are_unique};
+use sp_lp_tokens::{Token, TokenKindFault, TokenRefusal, tokens, tokens_are_unique};
 use std::alloc::Global;
-
-/// What stands for a token of a file without any.
-const NO_TOKEN: Token = Token {
-    kind: TokenKind::Name,
-    start: 0,
-    end: 0,
-    line: 1,
-};
-
-/// The line of the token at the place; behind the last one it is that one's.
-fn fault_line(list: &[Token], place: usize) -> u32
-    ensures { result ≡ fault_line list.now place }
-{
-    match list.get(place) {
-        Some(token) => token.line,
-        None => match list.last() {
-            Some(token) => token.line,
-            None => NO_TOKEN.line,
-        },
-    }
-}
 
 /// The refusal of a fault of the tokens.
 fn refusal_of(kind: TokenKindFault, line: u32) -> ReadRefusal
@@ -49,8 +33,9 @@ fn refusal_of(kind: TokenKindFault, line: u32) -> ReadRefusal
 
 /// The refusal of the fault at the place.
 fn refusal_at(alloc: Global, source: &[u8], list: &[Token], place: usize) -> ReadRefusal
-    requires { All (IsSpan source.now) list.now }
-    ensures { (result ≡ ReadRefusal.NoMemory) ⊎ IsRefusalAt list.now place result }
+    requires spans { All (IsSpan source.now) list.now }
+    requires within { place ≤ length list.now }
+    ensures { (result ≡ ReadRefusal.NoMemory) ⊎ (result ≡ refusal_by (fault_kind (all_seen source.now list.now) place) list.now place) }
 {
     let line = fault_line(list, place);
     match fault_kind(alloc, source, list, place) {
@@ -71,7 +56,7 @@ fn read_list(alloc: Global, source: &[u8], list: &[Token]) -> Result<Draft, Read
     ensures found { IfOk result (Lp (all_seen source.now list.now)) }
     ensures known { IfOk result IsWellFormed }
     ensures only { IsOnlyAnswer (all_seen source.now list.now) result }
-    ensures refused { IfErr result (λ r. (r ≡ ReadRefusal.NoMemory) ⊎ IsListRefusal source.now list.now r) }
+    ensures refused { IfErr result (λ r. (r ≡ ReadRefusal.NoMemory) ⊎ IsListRefusal (all_seen source.now list.now) r) }
 {
     readers_tell_files();
     fronts_begin_files();
@@ -84,22 +69,12 @@ fn read_list(alloc: Global, source: &[u8], list: &[Token]) -> Result<Draft, Read
     }
 }
 
-/// Reads a file in the CPLEX LP format, of at most 2^26 bytes.
-///
-/// # Errors
-///
-/// A fault of the tokens comes first. Else the fault is the first token such that no accepted file, of whatever length,
-/// begins with the tokens through it; where the tokens run out it is the last one, and line 1 where there is none. A huge
-/// coefficient takes the place of the name that makes it one. [`ReadRefusal::NoMemory`] may come at any time.
-pub fn read_lp(alloc: Global, bytes: &[u8]) -> Result<Draft, ReadRefusal>
+/// Reads a file.
+fn read_file(alloc: Global, bytes: &[u8]) -> Result<Draft, ReadRefusal>
     requires { length bytes.now ≤ most_bytes }
-
-    // The draft is the one that the bytes mean, and what `lower` asks for.
     ensures found { IfOk result (LpOf bytes.now) }
     ensures known { IfOk result IsWellFormed }
     ensures only { (d : Draft) → LpOf bytes.now d → (result ≡ Ok d) ⊎ (result ≡ Err ReadRefusal.NoMemory) }
-
-    // Each refusal but want of memory is that of the bytes.
     ensures refused { IfErr result (λ r. (r ≡ ReadRefusal.NoMemory) ⊎ IsRefused bytes.now r) }
 {
     tokens_are_unique();
@@ -108,4 +83,29 @@ pub fn read_lp(alloc: Global, bytes: &[u8]) -> Result<Draft, ReadRefusal>
         Err(TokenRefusal::Fault { line, kind }) => Err(refusal_of(kind, line)),
         Err(TokenRefusal::NoMemory) => Err(ReadRefusal::NoMemory),
     }
+}
+
+/// Reads a file in the CPLEX LP format, of at most 2^26 bytes.
+///
+/// # Errors
+///
+/// A fault of the tokens comes first. Else the fault is the first token such that no accepted file, of whatever length,
+/// begins with the tokens through it; where the tokens run out it is the last one, and line 1 where there is none. It is
+/// [`ReadRefusal::Unsupported`] at `[`, `<->` and a word of `user cuts`; [`ReadRefusal::WideNumeral`] at a constant, a
+/// weight or a coefficient that is huge, in the line of that number; [`ReadRefusal::DuplicateName`] where another name of
+/// a row or a set could stand; and else [`ReadRefusal::Syntax`]. [`ReadRefusal::NoMemory`] may come at any time.
+pub fn read_lp(alloc: Global, bytes: &[u8]) -> Result<Draft, ReadRefusal>
+    requires { length bytes.now ≤ most_bytes }
+
+    // The draft is the one that the bytes mean, and what `lower` asks for.
+    ensures found { IfOk result (LpOf bytes.now) }
+    ensures known { IfOk result IsWellFormed }
+    ensures only { (d : Draft) → LpOf bytes.now d → (result ≡ Ok d) ⊎ (result ≡ Err ReadRefusal.NoMemory) }
+
+    // Each refusal but want of memory is that of the bytes, and the refusal of the bytes is the answer.
+    ensures refused { IfErr result (λ r. (r ≡ ReadRefusal.NoMemory) ⊎ IsRefused bytes.now r) }
+    ensures first { (r : ReadRefusal) → IsRefused bytes.now r → (result ≡ Err r) ⊎ (result ≡ Err ReadRefusal.NoMemory) }
+{
+    files_have_one_answer();
+    read_file(alloc, bytes)
 }

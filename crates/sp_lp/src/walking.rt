@@ -35,7 +35,7 @@ fn is_first(initial: bool, before: u32, line: u32) -> bool
 }
 
 /// Reads one more token.
-fn read_next<'a>(
+pub(crate) fn read_next<'a>(
     tables: &Tables,
     source: &'a [u8],
     token: &Token,
@@ -53,7 +53,7 @@ fn read_next<'a>(
 }
 
 /// Reads the tokens of the source with a reader that has read none.
-pub(crate) fn read_tokens<'a>(
+fn read_tokens<'a>(
     source: &'a [u8],
     tokens: &[Token],
     reader: &mut TokenReader<'a>,

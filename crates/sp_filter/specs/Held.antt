@@ -77,13 +77,13 @@ pub record CanAdd (s : FilterList) (m : ModelParts) (name : List ℕ) (d : Filte
   pub weights : AreDraftWeightsLawful d
   pub narrow : IsNarrowDraft m d
 
--- the first thing, in this order, that forbids it; want of memory may come at any point
+-- the first thing, in this order, that forbids it; want of memory comes only where nothing does
 abbrev pub IsFirstRefusal : FilterList → ModelParts → List ℕ → FilterDraft → FilterRefusal → Type 0
 IsFirstRefusal s m name d NameTaken = is_taken s.held name ≡ true
 IsFirstRefusal s m name d TooMany = (is_taken s.held name ≡ false) × ¬ HasRoom s
 IsFirstRefusal s m name d NegativeWeight = (is_taken s.held name ≡ false) × HasRoom s × ¬ AreDraftWeightsLawful d
 IsFirstRefusal s m name d Wide = (is_taken s.held name ≡ false) × HasRoom s × AreDraftWeightsLawful d × ¬ IsNarrowDraft m d
-IsFirstRefusal s m name d NoMemory = Unit {0}
+IsFirstRefusal s m name d NoMemory = CanAdd s m name d
 
 -- the list with the draft's filter behind it
 abbrev pub with_filter : FilterList → List ℕ → FilterDraft → FilterList

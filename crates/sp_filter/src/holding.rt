@@ -249,8 +249,8 @@ impl Filters {
     ///
     /// In this order, exactly: [`FilterRefusal::NameTaken`] where a held filter has the name; [`FilterRefusal::TooMany`] where
     /// 64 are held or the next id is 2^32 - 1; [`FilterRefusal::NegativeWeight`] where a diversity weight is negative;
-    /// [`FilterRefusal::Wide`] where the width is above 10^36. [`FilterRefusal::NoMemory`] may come at any point. The filters
-    /// are then as before.
+    /// [`FilterRefusal::Wide`] where the width is above 10^36. [`FilterRefusal::NoMemory`] comes only where nothing of this
+    /// does, since memory is taken last. The filters are then as before.
     pub fn add(
         &mut self,
         model: &IntegerModel,

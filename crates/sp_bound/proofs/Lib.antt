@@ -1,6 +1,8 @@
+pub mod ChangeLemmas
 pub mod FactorLemmas
 pub mod HeldLemmas
 pub mod ReadyLemmas
+pub mod ReduceLemmas
 pub mod SafeLemmas
 pub mod SoundLemmas
 pub mod TurnLemmas

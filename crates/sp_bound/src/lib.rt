@@ -5,6 +5,8 @@ mod bounds;
 mod laws;
 mod numbers;
 mod reduced;
+mod scratch;
 
 pub use bounds::bound;
 pub use laws::bounds_are_sound;
+pub use scratch::{Scratch, bound_in};

@@ -1,0 +1,7 @@
+use Rattle.std.proofs.Common.{drop}
+use Rattle.sp_bound.specs.Inner.{plus}
+use Rattle.sp_bound.proofs.ChangeLemmas.{IsChanging}
+use Rattle.sp_bound.proofs.scratch.add_terms.Given as goal
+
+abbrev pub invariant-loop-term : goal.invariant-loop-term
+invariant-loop-term l = IsChanging plus l.factor l.terms (drop l.term-index l.terms) l.initial.costs.items l.costs.items

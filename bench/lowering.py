@@ -50,12 +50,12 @@ def lowered(program, given, runs=3):
     return (many - few) / (ROUNDS[1] - ROUNDS[0])
 
 
-def write_names(path, bytes_of_a_name):
-    """Writes 60 MB of names, each of them twice; how many names there are."""
-    count = NAME_BYTES // 2 // (bytes_of_a_name + 1)
-    names = [f"{number:0{bytes_of_a_name}}" for number in range(count)]
-    path.write_text(" ".join(names + names) + "\n")
-    return count
+def write_names(path, length, distinct):
+    """Writes 60 MB of names of one length, so many of them different, all in one order again and again; how many there are."""
+    names = [f"{number:0{length}}" for number in range(distinct)]
+    rounds = NAME_BYTES // (distinct * (length + 1))
+    path.write_text(" ".join(names * rounds))
+    return distinct * rounds
 
 
 def draft_table(program, file):
@@ -78,13 +78,13 @@ def draft_table(program, file):
 def name_table(program, file):
     """The lines of the table of names."""
     table = []
-    for length in (7, 60, 255):
-        count = write_names(file, length)
+    for length, distinct in ((4, 2_000), (9, 2_000), (255, 2_000), (255, 100_000), (29, 1_000_000), (7, 3_750_000)):
+        count = write_names(file, length, distinct)
         seconds, printed = least(program, ["names"], file)
-        if printed != f"names {count}\n".encode():
-            sys.exit(f"{printed} names in place of {count}")
+        if printed != f"names {distinct}\n".encode():
+            sys.exit(f"{printed} in place of {distinct} names")
         held = peak(program, ["names"], str(file.parent), given=str(file))
-        table.append(f"| {2 * count:,} names of {length} bytes, each twice | {seconds:.2f} | {seconds / 2 / count * 1e9:.0f} | {held / 1024:.0f} |")
+        table.append(f"| {count:,} of {length} bytes, {distinct:,} different | {seconds:.2f} | {seconds / count * 1e9:.0f} | {held / 1024:.0f} |")
     return table
 
 
@@ -109,13 +109,13 @@ Twice the terms take {times[1] / times[0]:.1f} times as long: the time grows wit
 each row's terms. A written term takes {of_a_term:.0f} bytes at that peak: its text, 48 in the draft, 32 in the model, and
 lists that grow by doubling.
 
-A text of 60 MB whose fields are added to a list of names (`Names::add`), half of them known:
+A line of 60 MB, whose fields are added to a list of names one after another (`Names::add`):
 
 | Names | Seconds | ns a name | Peak memory, MiB |
 |---|---|---|---|
 """ + "\n".join(names) + """
 
-A name that is known is looked up and not copied.
+A name that is known is looked up and not copied; a new one is copied and takes its bytes and some 65 more.
 """
     put("lowering", text)
     print(text)

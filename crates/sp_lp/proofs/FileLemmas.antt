@@ -1,5 +1,5 @@
 -- Each file has one answer.
-use Rattle.std.proofs.Common.{IfOk, IfErr, true, false, Bool, ◌≡◌, ℕ, zero, suc, ◌<◌, List, [], ◌∷◌, length, take, Option, Some, None, refl, ap, sym, ◌∙◌, subst, arith, ◌⊎◌, inl, inr, Result, Ok, Err}
+use Rattle.std.proofs.Common.{IfOk, IfErr, true, false, Bool, ◌≡◌, ℕ, suc, ◌<◌, List, [], ◌∷◌, length, take, Option, Some, None, refl, ap, sym, ◌∙◌, subst, arith, ◌⊎◌, inl, inr, Result, Ok, Err}
 use Rattle.std.specs.Prelude.{option_and_then}
 use Rattle.sp_draft.specs.declared.drafts.Draft.{Draft}
 use Rattle.sp_draft.specs.declared.read_refusals.ReadRefusal.{ReadRefusal}
@@ -11,10 +11,10 @@ use Rattle.sp_lp_tokens.specs.SeenTokens.{SeenToken, all_seen}
 use Rattle.sp_lp_grammar.specs.Lexemes.{mark_of}
 use Rattle.sp_lp_grammar.specs.Reads.{Lp, LpOf, IsFaultPlace}
 use Rattle.sp_lp_grammar.specs.InnerCursor.{Cursor, origin, take_mark, walk, ended_at}
-use Rattle.sp_lp.specs.Refusals.{IsRefusalAt, IsListRefusal, refusal_of, IsTokenRefusal, IsGrammarRefusal, IsRefused}
+use Rattle.sp_lp.specs.Refusals.{IsRefusalAt, IsListRefusal, refusal_of, IsRefused}
 use Rattle.sp_lp.specs.InnerKinds.{fault_kind}
 use Rattle.sp_lp.specs.InnerAnswers.{refusal_by}
-use Rattle.sp_lp.specs.Walks.{IsStop, IsUnfinished, outcome_at}
+use Rattle.sp_lp.specs.Walks.{outcome_at}
 use Rattle.sp_lp.proofs.KindLemmas.{one_refusal}
 use Rattle.sp_lp.proofs.OtherLemmas.{turn, stopped, nothing_left}
 use Rattle.sp_lp.proofs.PlaceLemmas.{Laws, OneList, not_both, stop_place, end_place, list_refusal}

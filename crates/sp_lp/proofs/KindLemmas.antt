@@ -1,5 +1,5 @@
 -- The kind of a refusal, by what the reader goes on with.
-use Rattle.std.proofs.Common.{◌≡◌, ℕ, ◌+◌, ◌-◌, Bool, true, false, not, ◌||◌, ◌&&◌, List, [], ◌∷◌, ◌++◌, take, Option, Some, None, refl, ap, sym, ◌∙◌, subst, ◌⊎◌, inl, inr}
+use Rattle.std.proofs.Common.{◌≡◌, ℕ, ◌+◌, ◌-◌, Bool, true, false, not, ◌||◌, ◌&&◌, List, [], ◌∷◌, ◌++◌, take, Option, Some, None, refl, ap, sym, ◌∙◌, ◌⊎◌, inl, inr}
 use Rattle.std.specs.Prelude.{is_some}
 use Rattle.sp_draft.specs.declared.read_refusals.ReadRefusal.{ReadRefusal}
 use Rattle.sp_draft.specs.declared.read_refusals.ReadRefusal.TheVariants as refusals
@@ -12,10 +12,8 @@ use Rattle.sp_lp_grammar.specs.Reads.{Begins}
 use Rattle.sp_lp_grammar.specs.InnerCursor.{Cursor, origin, walk}
 use Rattle.sp_lp.specs.declared.other_tokens.Other.{Other}
 use Rattle.sp_lp.specs.declared.other_tokens.Other.TheVariants.{Name, SetKind, Number, Plus, Colon}
-use Rattle.sp_lp.specs.declared.fault_kinds.FaultKind.{FaultKind}
-use Rattle.sp_lp.specs.declared.fault_kinds.FaultKind.TheVariants as faults
 use Rattle.sp_lp.specs.Standins.{line_of, CanStand}
-use Rattle.sp_lp.specs.Refusals.{marks_from, is_name_class, is_huge_class, is_huge, name_stands, huge_stands, is_unsupported, IsWideHere, IsWideBefore, IsWide, IsKnownSet, IsKnownLabel, IsKnownOpening, IsDuplicate, IsRefusalAt}
+use Rattle.sp_lp.specs.Refusals.{marks_from, is_name_class, is_huge_class, name_stands, huge_stands, is_unsupported, IsWideHere, IsWideBefore, IsWide, IsKnownSet, IsKnownLabel, IsKnownOpening, IsDuplicate, IsRefusalAt}
 use Rattle.sp_lp.specs.InnerKinds.{fault_line, other_tokens, goes, goes_with, is_wide_here, is_wide_before, is_known_set, is_known_label, is_known_opening, is_duplicate, kind_by, fault_kind}
 use Rattle.sp_lp.specs.InnerAnswers.{refusal_by}
 use Rattle.sp_lp.proofs.OtherLemmas.{seen_line}

@@ -10,7 +10,7 @@ use Rattle.sp_lp_tokens.specs.Tokens.{AreTokens, Ending, Complete, Faulty, Token
 use Rattle.sp_lp_tokens.specs.SeenTokens.{SeenToken, seen, all_seen}
 use Rattle.sp_lp_grammar.specs.Reads.{Lp, LpOf, Begins, IsFaultPlace}
 use Rattle.sp_lp_grammar.specs.InnerCursor.{Cursor, origin, walk, ended_at}
-use Rattle.sp_lp.specs.Refusals.{IsRefusalAt, IsListRefusal, refusal_of, IsRefused}
+use Rattle.sp_lp.specs.Refusals.{IsListRefusal, refusal_of, IsRefused}
 use Rattle.sp_lp.specs.InnerKinds.{fault_kind}
 use Rattle.sp_lp.specs.InnerAnswers.{refusal_by, IsOnlyAnswer}
 use Rattle.sp_lp.proofs.KindLemmas.{Readers, refusal_is}

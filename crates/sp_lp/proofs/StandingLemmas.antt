@@ -1,6 +1,6 @@
 -- What stands first among the tokens from a place on.
-use Rattle.std.proofs.Common.{◌≡◌, ℕ, zero, suc, ◌+◌, ◌-◌, ◌==◌, ◌≤◌, ◌<◌, Bool, true, false, not, ◌||◌, ◌&&◌, List, [], ◌∷◌, length, take, drop, get_or, Option, Some, None, refl, ap, sym, ◌∙◌, arith}
-use Rattle.std.specs.Prelude.{if◌then◌else◌, is_some, nat_lt}
+use Rattle.std.proofs.Common.{◌≡◌, ℕ, zero, suc, ◌+◌, ◌==◌, ◌≤◌, Bool, true, false, not, ◌&&◌, List, [], ◌∷◌, length, take, drop, Option, Some, None, refl, ap, sym, ◌∙◌, arith}
+use Rattle.std.specs.Prelude.{if◌then◌else◌, is_some}
 use Rattle.std.specs.List.{drop-map}
 use Rattle.std.proofs.Math.ListN.{drop_of_length-le}
 use Rattle.std.proofs.lemmas.Bool.Decides.{nat_tests}
@@ -14,8 +14,8 @@ use Rattle.sp_lp_words.specs.declared.sections.Part.TheVariants as parts
 use Rattle.sp_lp_words.specs.declared.classes.Class.{Class}
 use Rattle.sp_lp_words.specs.declared.classes.Class.TheVariants as classes
 use Rattle.sp_lp_words.specs.Sections.{pair_section}
-use Rattle.sp_lp_grammar.specs.Lexemes.{Mark, mark_of, marks, is_colon, colon_first, is_second, is_minus, HeadingOf, counted, pair_heading, semi_third, semi_heading, class_heading, heading_at}
-use Rattle.sp_lp_grammar.specs.InnerCursor.{first_behind, line_behind}
+use Rattle.sp_lp_grammar.specs.Lexemes.{Mark, marks, is_colon, colon_first, is_second, is_minus, HeadingOf, counted, pair_heading, semi_third, semi_heading, class_heading, heading_at}
+use Rattle.sp_lp_grammar.specs.InnerCursor.{line_behind}
 use Rattle.sp_lp.specs.Refusals.{marks_from, is_cuts, is_name_class, name_stands, cuts_stand}
 use Rattle.sp_lp.specs.InnerKinds.{pair_counts, word_counts, class_counts, section_stands, is_cuts_section}
 

@@ -1,5 +1,5 @@
 -- How the kind of a fault is decided: by what the reader goes on with.
-use Rattle.std.specs.Prelude.{ℕ, ◌+◌, ◌-◌, nat_lt, Bool, true, false, not, ◌||◌, ◌&&◌, if◌then◌else◌, List, [], ◌∷◌, ◌++◌, length, take, map, slice_index_or, Option, Some, None, is_some}
+use Rattle.std.specs.Prelude.{ℕ, ◌+◌, ◌-◌, Bool, true, false, not, ◌||◌, ◌&&◌, if◌then◌else◌, List, [], ◌∷◌, ◌++◌, length, take, map, slice_index_or, Option, Some, None, is_some}
 use Rattle.sp_lp_tokens.specs.declared.token_types.Token.{Token}
 use Rattle.sp_lp_tokens.specs.declared.token_types.TokenKind.TheVariants as kinds
 use Rattle.sp_lp_tokens.specs.SeenTokens.{SeenToken}

@@ -1,5 +1,5 @@
 -- Why an LP file is refused, and in which line.
-use Rattle.std.specs.Prelude.{◌≡◌, ◌⊎◌, ℕ, ◌+◌, ◌-◌, Bool, true, false, ◌||◌, ◌&&◌, not, List, [], ◌∷◌, drop, Option, Some, None, is_some}
+use Rattle.std.specs.Prelude.{◌≡◌, ◌⊎◌, ℕ, ◌+◌, ◌-◌, Bool, true, false, ◌||◌, ◌&&◌, not, List, [], ◌∷◌, drop, Option, Some, is_some}
 use Rattle.sp_decimal.specs.declared.numerals.Numeral.{Numeral}
 use Rattle.sp_decimal.specs.declared.numerals.Numeral.TheVariants.{Exact, Huge}
 use Rattle.sp_draft.specs.declared.read_refusals.ReadRefusal.{ReadRefusal}

@@ -1,5 +1,4 @@
 use Rattle.sp_lp.proofs.FileLemmas.{some_answer}
-use Rattle.sp_lp.proofs.PlaceLemmas.{Laws}
 use Rattle.sp_lp.proofs.lp_laws.files_have_some_answer.Goals as goal
 
 pub returns : goal.returns

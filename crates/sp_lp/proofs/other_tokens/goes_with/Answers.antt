@@ -1,4 +1,3 @@
-use Rattle.sp_lp.specs.Cursors.{cursor_of}
 use Rattle.sp_lp.proofs.OtherLemmas.{read_goes, refused_goes}
 use Rattle.sp_lp.proofs.other_tokens.goes_with.Goals as goal
 

@@ -1,4 +1,3 @@
-use Rattle.std.proofs.Common.{Option}
 use Rattle.sp_lp.specs.Cursors.{cursor_of}
 use Rattle.sp_lp.proofs.OtherLemmas.{token_read, token_refused, tokens_done, refuses}
 use Rattle.sp_lp.proofs.other_tokens.read_front.Goals as goal

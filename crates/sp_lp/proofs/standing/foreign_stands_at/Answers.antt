@@ -1,4 +1,4 @@
-use Rattle.std.proofs.Common.{ap, sym, ◌∙◌, refl}
+use Rattle.std.proofs.Common.{ap, sym, ◌∙◌}
 use Rattle.std.specs.List.{drop-map}
 use Rattle.sp_lp_tokens.specs.SeenTokens.{seen}
 use Rattle.sp_lp.specs.Refusals.{foreign_stands}

@@ -1,9 +1,12 @@
 pub mod ChangeLemmas
 pub mod FactorLemmas
 pub mod HeldLemmas
+pub mod IdleLemmas
 pub mod ReadyLemmas
 pub mod ReduceLemmas
 pub mod SafeLemmas
 pub mod SoundLemmas
+pub mod StatedLemmas
+pub mod StatingLemmas
 pub mod TurnLemmas
 pub mod VariableLemmas

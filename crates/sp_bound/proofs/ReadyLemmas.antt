@@ -1,5 +1,7 @@
 -- What lawful models give: rows that are fit for sums over each box inside the closed one.
-use Rattle.std.proofs.Common.{◌≡◌, ℕ, List, length, get_or, All, arith}
+use Rattle.std.proofs.lemmas.Bool.{cases_lt}
+use Rattle.std.proofs.lemmas.List.{get_or_past}
+use Rattle.std.proofs.Common.{◌≡◌, ◌<◌, ◌⊎◌, inl, inr, [], subst, sym, ℕ, List, length, get_or, All, arith}
 use Rattle.sp_model.specs.declared.parts.Row.{Row}
 use Rattle.sp_model.specs.declared.parts.ModelParts.{ModelParts}
 use Rattle.sp_model.specs.Boxes.{Bounds}
@@ -32,3 +34,13 @@ rows_rising m n lawful e = record {
   cost = rising_of (length (root_of m)) n m.cost e lawful.objective.terms;
   rows = λ k l. rising_of (length (root_of m)) n (row_at m.rows k).terms e (lawful.rows.each k bare_row l).terms;
 }
+
+bare_rising : (n : ℕ) → IsRising n []
+bare_rising n = record { known = λ k d l. absurd (omega (arith, l)); rising = λ i k d l g. absurd (omega (arith, g)) }
+
+-- also past the last row, where there are no terms
+pub all_rising : (m : ModelParts) (b : Bounds) → IsLawful m → IsInside (root_of m) b → (k : ℕ) → IsRising (length b) (row_at m.rows k).terms
+all_rising m b lawful inside k = elim (cases_lt k (length m.rows)) [
+  | inl l ↦ (rows_rising m (length b) lawful inside.long).rows k l
+  | inr g ↦ (let bare : bare_row ≡ row_at m.rows k = sym (get_or_past m.rows k bare_row g) in subst (λ (row : Row). IsRising (length b) row.terms) bare (bare_rising (length b)))
+]

@@ -134,3 +134,8 @@ pub record IsSideOf (t : Option ℤ) (k d sides : ℤ) (hi : Option ℤ) : Type 
 -- a side that is above every small sum, or below
 abbrev pub far_side : ℤ → Option ℤ
 far_side z = cond (int_lt (pos 0) z) None (Some (negsuc (2 ^ 127 - 1)))
+
+-- the side, and the far side of the number where it has none
+abbrev pub side_or_far : ℤ → Option ℤ → Option ℤ
+side_or_far z None = far_side z
+side_or_far z (Some side) = Some side

@@ -1,6 +1,6 @@
 //! The bound of a list of multipliers by one sum a variable.
 
-ghost use Rattle.std.specs.Prelude.{◌≡◌, ◌<◌, ◌≤◌, ◌*ℤ◌, All, AllPairs, IfOk, length, pos, Some, slice_set};
+ghost use Rattle.std.specs.Prelude.{◌≡◌, ◌<◌, ◌≤◌, ◌*ℤ◌, All, AllPairs, IfOk, IsTrue, length, pos, Some, slice_set, ◌↔◌};
 ghost use Rattle.sp_model.specs.Models.{root_of};
 ghost use Rattle.sp_sums.specs.Ranges.{IsInside};
 ghost use Rattle.sp_sums.specs.Rows.{row_at};
@@ -37,6 +37,14 @@ impl Scratch {
         root_is_short();
         let costs = empty_costs(alloc, parts.lower.len())?;
         Ok(Scratch { costs })
+    }
+
+    /// Whether it has room for the variables of the model, and no more.
+    pub fn suits(&self, model: &Model) -> bool
+        ensures { IsTrue result ↔ (length self.now ≡ length (root_of model.now)) }
+    {
+        root_is_short();
+        self.costs.len() == model.parts().lower.len()
     }
 }
 

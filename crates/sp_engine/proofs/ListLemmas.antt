@@ -8,12 +8,12 @@ use Rattle.std.proofs.lemmas.List.Elements.{All-from_recursion}
 use Rattle.sp_list.specs.declared.found.Found.{Found}
 use Rattle.sp_model.specs.declared.gaps.Gaps.{Gaps}
 use Rattle.sp_model.specs.declared.parts.ModelParts.{ModelParts}
-use Rattle.sp_model.specs.Models.{root_of}
 use Rattle.sp_list.specs.Lists.{points_of}
 use Rattle.sp_engine.specs.declared.journals.Entry.{Entry}
 use Rattle.sp_engine.specs.declared.journals.Entry.TheVariants as entry
 use Rattle.sp_engine.specs.declared.journals.RunEnd.{RunEnd}
 use Rattle.sp_engine.specs.declared.journals.RunEnd.TheVariants as end
+use Rattle.sp_engine.specs.declared.models.NamedModel.{NamedModel}
 use Rattle.sp_engine.specs.declared.replies.Reply.{Reply}
 use Rattle.sp_engine.specs.declared.runs.Listing.{Listing}
 use Rattle.sp_engine.specs.declared.solving.Solved.{Solved}
@@ -22,7 +22,7 @@ use Rattle.sp_engine.specs.LegalRuns.{Asked, IsLegalRun, asked_of, first_run, fi
 use Rattle.sp_engine.specs.Listing.{IsSerial, RepliesAfter, after_run, serials_from}
 use Rattle.sp_engine.specs.Runs.{IsListing, IsSmall, reply_of}
 use Rattle.sp_engine.specs.SolutionLists.{Lists}
-use Rattle.sp_engine.specs.Views.{Filter, Named, Settings, View, point_of}
+use Rattle.sp_engine.specs.Views.{Filter, Settings, View, point_of}
 
 points_noted : (fs : List Found) → map (λ f. entry.Found f.point) fs ≡ map entry.Found (points_of fs)
 points_noted [] = refl
@@ -71,15 +71,15 @@ serials_fit found all serials a s =
     subst (λ xs. All (IsSerial (length xs)) serials) (sym a)
     (subst (All (IsSerial (length found))) (sym s) (All-from_recursion (IsSerial (length found)) (serials_from 1 (length found)) (all_serials (length found) 1 (length found) (omega arith) (omega arith))))
 
-reply_fits : (e : RunEnd) (named : Named) (best : Option ℤ) (found : List (List ℤ)) (serials : List ℕ) (nodes : ℕ) (after : View) (r : Reply)
-    → EndsWith named.parts e best found → after.settings ≡ first_settings → after.filters ≡ [] → after.found ≡ found → serials ≡ serials_from 1 (length found)
+reply_fits : (e : RunEnd) (named : NamedModel) (best : Option ℤ) (found : List (List ℤ)) (serials : List ℕ) (nodes : ℕ) (after : View) (r : Reply)
+    → EndsWith named.model e best found → after.settings ≡ first_settings → after.filters ≡ [] → after.found ≡ found → serials ≡ serials_from 1 (length found)
     → r ≡ reply_of e best serials nodes → RepliesAfter e named nodes after r
 reply_fits end.Done named best found serials nodes after r h settings filters same s is = record {
   optimum = best;
   serials = serials;
   reply_is = is;
   known = serials_fit found after.found serials same s;
-  lists = lists_fit named.parts best found after.found after.settings.gaps after.filters serials (ap (λ (t : Settings). t.gaps) settings) filters same s h;
+  lists = lists_fit named.model best found after.found after.settings.gaps after.filters serials (ap (λ (t : Settings). t.gaps) settings) filters same s h;
 }
 reply_fits end.NodeLimit named best found serials nodes after r h settings filters same s is = is
 reply_fits end.Optimal named best found serials nodes after r h settings filters same s is = absurd h
@@ -104,13 +104,10 @@ asks_first view m s f x n =
     ∙ ap (λ found. asked_with m first_settings [] found view.nodes) x ∙ ap (asked_with m first_settings [] []) n
 
 -- the run was solved, its points and its end are noted, and the reply lists all of them
-pub is_listing : (names : List (List ℕ)) (m : ModelParts) (s : Solved) (l : Listing) (serials : List ℕ) (notes : List Entry) → IsSolved m s → length names ≡ length (root_of m)
-    → l.names ≡ names → l.model ≡ m → l.reply ≡ reply_of s.end s.best serials s.nodes → serials ≡ serials_from 1 (length s.listed.items)
-    → notes ≡ map (λ f. entry.Found f.point) s.listed.items → l.notes.items ≡ notes ++ entry.Ended s.end s.nodes ∷ [] → IsListing names m l
-is_listing names m s l serials notes solved named ns ms replied counted noted ended = record {
-  names_are = ns;
-  model_is = ms;
-  long = named;
+pub is_listing : (named : NamedModel) (s : Solved) (l : Listing) (serials : List ℕ) (notes : List Entry) → IsSolved named.model s
+    → l.reply ≡ reply_of s.end s.best serials s.nodes → serials ≡ serials_from 1 (length s.listed.items)
+    → notes ≡ map (λ f. entry.Found f.point) s.listed.items → l.notes.items ≡ notes ++ entry.Ended s.end s.nodes ∷ [] → IsListing named l
+is_listing named s l serials notes solved replied counted noted ended = record {
   small = subst IsSmall (sym replied) (small_reply s.end s.best serials s.nodes solved.small);
   found = points_of s.listed.items;
   nodes = s.nodes;
@@ -119,9 +116,9 @@ is_listing names m s l serials notes solved named ns ms replied counted noted en
     ended = s.end;
     nodes = s.nodes;
     noted = ended ∙ ap (λ es. es ++ entry.Ended s.end s.nodes ∷ []) (noted ∙ points_noted s.listed.items);
-    legal = subst (λ a. IsLegalRun a (points_of s.listed.items) s.end s.nodes) (sym (asks_first view m settings filters found nodes)) solved.legal;
+    legal = subst (λ a. IsLegalRun a (points_of s.listed.items) s.end s.nodes) (sym (asks_first view named.model settings filters found nodes)) solved.legal;
     after_is = refl;
-    reply_is = reply_fits s.end (record { names = names; parts = m }) s.best (points_of s.listed.items) serials s.nodes (after_run view (points_of s.listed.items) s.nodes) l.reply
+    reply_is = reply_fits s.end named s.best (points_of s.listed.items) serials s.nodes (after_run view (points_of s.listed.items) s.nodes) l.reply
         solved.answer settings filters (ap (λ xs. xs ++ points_of s.listed.items) found)
         (counted ∙ ap (serials_from 1) (sym (length-map s.listed.items (λ f. f.point)))) replied;
   };

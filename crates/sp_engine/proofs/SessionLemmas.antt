@@ -9,7 +9,8 @@ use Rattle.sp_engine.specs.declared.replies.Reply.{Reply}
 use Rattle.sp_engine.specs.Notes.{run_notes}
 use Rattle.sp_engine.specs.Sessions.{Says, end_of_run, share_of}
 use Rattle.sp_engine.specs.Listing.{SaysList}
-use Rattle.sp_engine.specs.Views.{Named, View}
+use Rattle.sp_engine.specs.declared.models.NamedModel.{NamedModel}
+use Rattle.sp_engine.specs.Views.{View}
 
 -- a run's notes end with the first note that ends a run
 run_ends : (found : List (List ℤ)) (ended : RunEnd) (nodes : ℕ) (rest : List Entry) → end_of_run (run_notes found ended nodes ++ rest) ≡ length (run_notes found ended nodes)
@@ -20,6 +21,6 @@ pub one_division : (view after : View) (c : Command) (notes rest : List Entry) (
 one_division view after (command.Read name) notes rest r says = sym (ap length says.noted)
 one_division view after command.List notes rest r says = by view.model says
   where
-    by : (model : Option Named) → SaysList model view notes r after → end_of_run (notes ++ rest) ≡ length notes
+    by : (model : Option NamedModel) → SaysList model view notes r after → end_of_run (notes ++ rest) ≡ length notes
     by None lists = absurd lists
     by (Some named) lists = ap (λ es. end_of_run (es ++ rest)) lists.noted ∙ run_ends lists.found lists.ended lists.nodes rest ∙ sym (ap length lists.noted)

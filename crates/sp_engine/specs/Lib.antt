@@ -1,3 +1,5 @@
+pub mod Formats
+pub mod Models
 pub mod Notes
 pub mod Views
 pub mod LegalRuns
@@ -10,3 +12,4 @@ pub mod Runs
 pub mod Sessions
 pub mod InnerSolving
 pub mod InnerWalk
+pub mod InnerModels

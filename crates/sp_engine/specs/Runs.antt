@@ -1,9 +1,8 @@
 -- What a listed model is.
-use Rattle.std.specs.Prelude.{◌≡◌, ℕ, ◌^◌, ◌≤◌, List, [], length, Option, IfSome, ℤ, unsigned_abs}
-use Rattle.sp_model.specs.declared.parts.ModelParts.{ModelParts}
-use Rattle.sp_model.specs.Models.{root_of}
+use Rattle.std.specs.Prelude.{◌≡◌, ℕ, ◌^◌, ◌≤◌, List, [], Option, IfSome, ℤ, unsigned_abs}
 use Rattle.sp_engine.specs.declared.journals.RunEnd.{RunEnd}
 use Rattle.sp_engine.specs.declared.journals.RunEnd.TheVariants as end
+use Rattle.sp_engine.specs.declared.models.NamedModel.{NamedModel}
 use Rattle.sp_engine.specs.declared.runs.Listing.{Listing}
 use Rattle.sp_engine.specs.declared.replies.Reply.{Reply}
 use Rattle.sp_engine.specs.declared.replies.Reply.TheVariants as reply
@@ -27,12 +26,9 @@ IsSmall (reply.Stopped nodes) = Unit {0}
 IsSmall (reply.Refused why) = Unit {0}
 
 -- what a session says of the command that lists, where it read the model and found nothing yet
-pub record IsListing (names : List (List ℕ)) (m : ModelParts) (l : Listing) : Type 0 where
-  pub names_are : l.names ≡ names
-  pub model_is : l.model ≡ m
-  pub long : length names ≡ length (root_of m)
+pub record IsListing (named : NamedModel) (l : Listing) : Type 0 where
   pub small : IsSmall l.reply
   pub found : List (List ℤ)
   pub nodes : ℕ
   pub says : (view : View) → view.settings ≡ first_settings → view.filters ≡ [] → view.found ≡ [] → view.nodes ≡ 1
-      → ListsModel (record { names = names; parts = m }) view l.notes.items l.reply (after_run view found nodes)
+      → ListsModel named view l.notes.items l.reply (after_run view found nodes)

@@ -3,7 +3,7 @@ use Rattle.std.specs.Prelude.{ℕ, ◌^◌, ◌-◌, min, Bool, List, [], ◌∷
 use Rattle.std.specs.List.{list_all}
 use Rattle.sp_base.specs.Shelf.{Files}
 use Rattle.sp_model.specs.declared.gaps.Gaps.{Gaps}
-use Rattle.sp_model.specs.declared.parts.ModelParts.{ModelParts}
+use Rattle.sp_engine.specs.declared.models.NamedModel.{NamedModel}
 
 -- what the user can set
 pub record Settings : Type 0 where
@@ -11,11 +11,6 @@ pub record Settings : Type 0 where
   pub gaps : Gaps
   -- the most nodes that a tree may have
   pub node_limit : ℕ
-
--- a model with the names of its variables, in declared order
-pub record Named : Type 0 where
-  pub names : List (List ℕ)
-  pub parts : ModelParts
 
 -- a filter tells which points it lets pass
 abbrev pub Filter : Type 0
@@ -26,7 +21,7 @@ passes filters x = list_all (λ filter. filter x) filters
 
 pub record View : Type 0 where
   pub settings : Settings
-  pub model : Option Named
+  pub model : Option NamedModel
   pub filters : List Filter
   -- the points found since the model was read, in the order in which they were found
   pub found : List (List ℤ)

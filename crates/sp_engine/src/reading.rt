@@ -1,12 +1,14 @@
 //! Reading a model file from a shelf.
-ghost use Rattle.std.specs.Prelude.{◌≡◌, ◌≤◌, length};
+ghost use Rattle.std.specs.Prelude.{◌≡◌, ◌≤◌, ℕ, List, length, Some};
+ghost use Rattle.sp_engine.specs.Formats.{format_of};
 ghost use Rattle.sp_engine.specs.Notes.{AreAnswers, shelf_state};
 ghost use Rattle.sp_engine.specs.Views.{View, file_limit, limit_after};
 
+use crate::formats::FileFormat;
 use crate::journals::FetchNote;
+use crate::models::{Meaning, NamedModel, meaning_of};
 use crate::replies::Refusal;
 use sp_base::{Fetched, Shelf, Text};
-use sp_small_lp::{LpRefusal, NamedModel, read_lp};
 use std::alloc::Global;
 
 /// The most bytes of one file, 2^26.
@@ -39,6 +41,8 @@ pub enum ReadEnd {
     },
 }
 
+ghost use Rattle.sp_engine.specs.InnerModels.{IsPaired};
+ghost use Rattle.sp_engine.specs.Models.{Means};
 ghost use Rattle.sp_engine.specs.ReadEnds.{IsReadOf, ReadSays, IsRunnable, read_notes};
 
 /// The most bytes that the next file of a session may have, which fetched so many before.
@@ -48,30 +52,47 @@ fn limit_after(fetched: u64) -> u64
     FILE_LIMIT.min(SESSION_LIMIT.saturating_sub(fetched))
 }
 
-/// Reads the bytes of a file.
-fn read_bytes(alloc: Global, bytes: Text) -> ReadEnd
-    requires { length bytes ≤ file_limit }
-    ensures { IsReadOf bytes result }
+/// The end of reading a file of this format with this meaning.
+fn read_end(bytes: Text, meaning: Meaning) -> ReadEnd
+    ensures { (name : List ℕ) → Means name bytes meaning → IsPaired meaning → IsReadOf name bytes result }
 {
-    match read_lp(alloc, bytes.as_slice()) {
-        Ok(named) => ReadEnd::Accepted { bytes, named },
-        Err(LpRefusal::Syntax) => ReadEnd::Refused {
+    match meaning {
+        Meaning::Model(named) => ReadEnd::Accepted { bytes, named },
+        Meaning::Refused(why) => ReadEnd::Refused {
             answer: FetchNote::Bytes(bytes),
-            why: Refusal::Syntax,
+            why,
         },
-        Err(LpRefusal::NoMemory) => ReadEnd::NoMemory { bytes: Some(bytes) },
     }
 }
 
-/// Asks the shelf for the file of this name, once, and reads it, in a session that fetched so many bytes before.
-pub fn read<F: Shelf>(alloc: Global, name: &Text, fetched: u64, shelf: &mut F) -> ReadEnd
+/// Reads the bytes of a file of this format.
+fn read_bytes(alloc: Global, format: FileFormat, bytes: Text) -> ReadEnd
+    requires { length bytes ≤ file_limit }
+    ensures { (name : List ℕ) → format_of name ≡ Some format → IsReadOf name bytes result }
+{
+    match meaning_of(alloc, format, bytes.as_slice()) {
+        Ok(meaning) => read_end(bytes, meaning),
+        Err(_) => ReadEnd::NoMemory { bytes: Some(bytes) },
+    }
+}
+
+/// Asks the shelf for the file of this name, once, and reads it by its format, in a session that fetched so many bytes
+/// before.
+pub fn read<F: Shelf>(
+    alloc: Global,
+    name: &Text,
+    format: FileFormat,
+    fetched: u64,
+    shelf: &mut F,
+) -> ReadEnd
+    requires { format_of name.now ≡ Some format }
     ensures says { (view : View) → view.files ≡ F.files shelf.old → view.fetched ≡ fetched
         → ReadSays view name.now result }
     ensures runnable { IsRunnable result }
     ensures noted { AreAnswers (read_notes result) (shelf_state F.Shelf shelf.old) (shelf_state F.Shelf shelf.new) }
 {
     match shelf.read(name, limit_after(fetched)) {
-        Fetched::Bytes(bytes) => read_bytes(alloc, bytes),
+        Fetched::Bytes(bytes) => read_bytes(alloc, format, bytes),
         Fetched::Absent => ReadEnd::Refused {
             answer: FetchNote::Absent,
             why: Refusal::FileAbsent,

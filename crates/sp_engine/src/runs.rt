@@ -1,24 +1,17 @@
 //! Listing the solutions of a model: all that takes memory is done here, before the first line goes out.
-ghost use Rattle.std.specs.Prelude.{◌≡◌, ◌++◌, ◌∷◌, [], map, length, IfOk, OnOk};
-ghost use Rattle.sp_model.specs.Models.{root_of};
-ghost use Rattle.sp_model.specs.Rules.{IsLawful};
+ghost use Rattle.std.specs.Prelude.{◌≡◌, map, IfOk};
 
 use crate::journals::{Entry, RunEnd};
+use crate::models::NamedModel;
 use crate::replies::Reply;
 use crate::solving::{Solved, solve};
-use sp_base::WordList;
 use sp_list::Found;
-use sp_model::{BuildRefusal, Items, Model, NoMemory, root_is_short};
-use sp_small_lp::NamedModel;
+use sp_model::{Items, NoMemory};
 use std::alloc::{AllocError, Global};
 
-/// What a run of a model noted and replies, with what its lines need.
+/// What a run of a model noted and replies.
 #[derive(Debug, Drop)]
 pub struct Listing {
-    /// The names of the variables.
-    pub names: WordList,
-    /// The model.
-    pub model: Model,
     /// The found points, in the order in which they were found, and the end of the run.
     pub notes: Vec<Entry>,
     /// The reply.
@@ -69,40 +62,19 @@ fn reply_to(end: RunEnd, optimum: Option<i128>, serials: Vec<usize>, nodes: u32)
     }
 }
 
-/// The run of a model that was built.
-fn list_model(alloc: Global, names: WordList, model: Model) -> Result<Listing, NoMemory>
-    requires { length names ≡ length (root_of model) }
-    ensures { IfOk result (IsListing names model) }
+/// Lists the optimal solutions of a model. `NoMemory` may come at any time.
+pub fn list(alloc: Global, named: &NamedModel) -> Result<Listing, NoMemory>
+    ensures { IfOk result (IsListing named.now) }
 {
     let Solved {
         best,
         listed,
         end,
         nodes,
-    } = solve(alloc, &model)?;
+    } = solve(alloc, &named.model)?;
     let serials = serials_to(alloc, listed.len())?;
     let mut notes = note_points(alloc, listed)?;
     notes.push(Entry::Ended { end, nodes })?;
     let reply = reply_to(end, best, serials, nodes);
-    Ok(Listing {
-        names,
-        model,
-        notes,
-        reply,
-    })
-}
-
-/// Lists the optimal solutions of a model. `NoMemory` may come at any time.
-pub fn list(alloc: Global, named: NamedModel) -> Result<Listing, NoMemory>
-    requires lawful { IsLawful named.parts }
-    requires named { length named.names ≡ length named.parts.lower }
-    ensures { IfOk result (IsListing named.names named.parts) }
-{
-    root_is_short();
-    let NamedModel { names, parts } = named;
-    match Model::build(alloc, parts) {
-        Ok(model) => list_model(alloc, names, model),
-        Err(BuildRefusal::NoMemory) => Err(NoMemory),
-        Err(_) => unreachable!(),
-    }
+    Ok(Listing { notes, reply })
 }

@@ -17,30 +17,33 @@ use Rattle.sp_base.specs.Writing.{Puts, SinkState}
 use Rattle.sp_model.specs.declared.parts.ModelParts.{ModelParts}
 use Rattle.sp_model.specs.Boxes.{IsWithin}
 use Rattle.sp_model.specs.Models.{root_of, Feasible}
-use Rattle.sp_small_lp.specs.declared.reading.NamedModel.{NamedModel}
+use Rattle.sp_engine.specs.declared.formats.FileFormat.{FileFormat}
 use Rattle.sp_engine.specs.declared.journals.Entry.{Entry}
 use Rattle.sp_engine.specs.declared.journals.Entry.TheVariants as entry
 use Rattle.sp_engine.specs.declared.journals.FetchNote.{FetchNote}
 use Rattle.sp_engine.specs.declared.journals.FetchNote.TheVariants as note
 use Rattle.sp_engine.specs.declared.journals.RunEnd.{RunEnd}
 use Rattle.sp_engine.specs.declared.journals.RunEnd.TheVariants as end
+use Rattle.sp_engine.specs.declared.models.NamedModel.{NamedModel}
 use Rattle.sp_engine.specs.declared.reading.ReadEnd.TheVariants as ended
 use Rattle.sp_engine.specs.declared.replies.Refusal.{Refusal}
 use Rattle.sp_engine.specs.declared.replies.Reply.{Reply}
 use Rattle.sp_engine.specs.declared.replies.Reply.TheVariants as reply
 use Rattle.sp_engine.specs.declared.runs.Listing.{Listing}
+use Rattle.sp_engine.specs.Formats.{format_of}
 use Rattle.sp_engine.specs.LegalRuns.{first_settings}
 use Rattle.sp_engine.specs.Listing.{IsSerial, ListsModel, RepliesAfter, after_run}
 use Rattle.sp_engine.specs.Notes.{AreAnswers, ShelfState, answer_of, is_answer, is_absence, is_overrun, is_fault, run_notes}
-use Rattle.sp_engine.specs.ReadEnds.{ReadSays, bytes_notes, named_of}
+use Rattle.sp_engine.specs.ReadEnds.{ReadSays, bytes_notes}
 use Rattle.sp_engine.specs.Reading.{SaysRead, WantsInRead, fetched_more, with_model}
 use Rattle.sp_engine.specs.Replies.{is_refused}
 use Rattle.sp_engine.specs.Runs.{IsListing}
-use Rattle.sp_engine.specs.Views.{Named, View, begun, point_of, read_limit}
+use Rattle.sp_engine.specs.Views.{View, begun, point_of, read_limit}
 use Rattle.sp_shell.specs.declared.wordings.Wording.TheVariants as wording
-use Rattle.sp_shell.specs.Wording.{refusal_wording, spelling}
-use Rattle.sp_shell.specs.Replies.{done_head, listed_text, reply_text, solution_line}
-use Rattle.sp_shell.specs.Runs.{IsFileRun, IsUsage, Outcome, RunText, RunUnsaid, status_by}
+use Rattle.sp_shell.specs.Wording.{spelling}
+use Rattle.sp_draft.specs.SolutionLines.{solution_line}
+use Rattle.sp_shell.specs.Replies.{done_head, listed_text, refusal_text, reply_text}
+use Rattle.sp_shell.specs.Runs.{IsFileRun, IsOtherFile, IsUsage, ModelFile, OtherFile, Outcome, RunText, RunUnsaid, asked, asked_by_format, asked_by_word, file_word, status_by}
 use Rattle.sp_shell.specs.InnerEndings.{status_after, Answered, Ended, IsWhole}
 use Rattle.sp_shell.specs.InnerReplies.{AreNoted, CanPrint, IsPrintable, entry_line, printed_text, serial_line}
 use Rattle.sp_shell.specs.InnerRuns.{IsRead, OwnNotes, is_own}
@@ -92,21 +95,18 @@ own_notes [] e nodes = refl
 own_notes (x ∷ xs) e nodes = own_notes xs e nodes
 
 -- the data after the file was read
-abbrev read_view : Option Files → List ℕ → Named → View
+abbrev read_view : Option Files → List ℕ → NamedModel → View
 read_view files bytes named = with_model (fetched_more (begun first_settings files) (length bytes)) named
 
-abbrev named_by : List (List ℕ) → ModelParts → Named
-named_by names m = record { names = names; parts = m }
-
 -- what the command that lists says then
-listing_says : (files : Option Files) (bytes : List ℕ) (names : List (List ℕ)) (m : ModelParts) (l : Listing) (i : IsListing names m l)
-    → ListsModel (named_by names m) (read_view files bytes (named_by names m)) l.notes.items l.reply (after_run (read_view files bytes (named_by names m)) i.found i.nodes)
-listing_says files bytes names m l i = i.says (read_view files bytes (named_by names m)) refl refl refl refl
+listing_says : (files : Option Files) (bytes : List ℕ) (named : NamedModel) (l : Listing) (i : IsListing named l)
+    → ListsModel named (read_view files bytes named) l.notes.items l.reply (after_run (read_view files bytes named) i.found i.nodes)
+listing_says files bytes named l i = i.says (read_view files bytes named) refl refl refl refl
 
 -- the notes, whatever was read
-pub listing_notes : {names : List (List ℕ)} {m : ModelParts} {l : Listing} (first : Entry) (entries : List Entry) → IsListing names m l → entries ≡ first ∷ l.notes.items → OwnNotes first entries
-listing_notes {names} {m} {l} first entries i e =
-    let s = listing_says None [] names m l i in
+pub listing_notes : {named : NamedModel} {l : Listing} (first : Entry) (entries : List Entry) → IsListing named l → entries ≡ first ∷ l.notes.items → OwnNotes first entries
+listing_notes {named} {l} first entries i e =
+    let s = listing_says None [] named l i in
     record { rest = l.notes.items; noted = e; own = ap (list_all is_own) s.noted ∙ own_notes s.found s.ended s.nodes }
 
 -- what a law of models says: a feasible point lies within the closed box
@@ -114,32 +114,30 @@ abbrev pub FeasibleWithin : ModelParts → Type 0
 FeasibleWithin m = (x : List ℤ) → Feasible m x → IsWithin (root_of m) x
 
 -- each noted point can be printed
-printable_notes : (names : List (List ℕ)) (m : ModelParts) → FeasibleWithin m → (found : List (List ℤ)) (e : RunEnd) (nodes : ℕ) → length names ≡ length (root_of m)
-    → AllByRecursion (Feasible m) found → AllByRecursion (IsPrintable names m) (run_notes found e nodes)
-printable_notes names m within [] e nodes named all = (tt, tt)
-printable_notes names m within (x ∷ xs) e nodes named all = ((within x all.0, (within x all.0).long ∙ sym named), printable_notes names m within xs e nodes named all.1)
+printable_notes : (named : NamedModel) → FeasibleWithin named.model → (found : List (List ℤ)) (e : RunEnd) (nodes : ℕ) → length named.names ≡ length (root_of named.model)
+    → AllByRecursion (Feasible named.model) found → AllByRecursion (IsPrintable named) (run_notes found e nodes)
+printable_notes named within [] e nodes paired all = (tt, tt)
+printable_notes named within (x ∷ xs) e nodes paired all = ((within x all.0, (within x all.0).long ∙ sym paired), printable_notes named within xs e nodes paired all.1)
 
 same_answer : {one other : FetchNote} → entry.Fetched one ∷ [] ≡ entry.Fetched other ∷ [] → other ≡ one
 same_answer e = cc
 
-printable : {names : List (List ℕ)} {m : ModelParts} {l : Listing} → FeasibleWithin m → (answer : FetchNote) (entries : List Entry)
-    → IsListing names m l → entries ≡ entry.Fetched answer ∷ l.notes.items → All (IsPrintable l.names l.model) entries
-printable {names} {m} {l} within answer entries i e =
-    subst (λ ns. All (IsPrintable ns l.model) entries) (sym i.names_are)
-    (subst (λ p. All (IsPrintable names p) entries) (sym i.model_is)
-    (subst (All (IsPrintable names m)) (sym (e ∙ ap (λ es. entry.Fetched answer ∷ es) s.noted))
-    (All-from_recursion (IsPrintable names m) (entry.Fetched answer ∷ run_notes s.found s.ended s.nodes)
-    (tt, printable_notes names m within s.found s.ended s.nodes i.long (recursion_from_All (Feasible m) s.found s.legal.feasible)))))
+printable : {named : NamedModel} {l : Listing} → FeasibleWithin named.model → length named.names ≡ length (root_of named.model) → (answer : FetchNote) (entries : List Entry)
+    → IsListing named l → entries ≡ entry.Fetched answer ∷ l.notes.items → All (IsPrintable named) entries
+printable {named} {l} within paired answer entries i e =
+    subst (All (IsPrintable named)) (sym (e ∙ ap (λ es. entry.Fetched answer ∷ es) s.noted))
+    (All-from_recursion (IsPrintable named) (entry.Fetched answer ∷ run_notes s.found s.ended s.nodes)
+    (tt, printable_notes named within s.found s.ended s.nodes paired (recursion_from_All (Feasible named.model) s.found s.legal.feasible)))
   where
-    s : ListsModel (named_by names m) (read_view None [] (named_by names m)) l.notes.items l.reply (after_run (read_view None [] (named_by names m)) i.found i.nodes)
-    s = listing_says None [] names m l i
+    s : ListsModel named (read_view None [] named) l.notes.items l.reply (after_run (read_view None [] named) i.found i.nodes)
+    s = listing_says None [] named l i
 
 -- each serial of the reply is the place of a note
 places : (found : List (List ℤ)) (count : ℕ) (serials : List ℕ) → length found < count → AllByRecursion (IsSerial (length found)) serials → AllByRecursion (λ serial. serial < count) serials
 places found count [] more all = tt
 places found count (n ∷ ns) more all = (omega (arith, more, all.0.last), places found count ns more all.1)
 
-noted_reply : (e : RunEnd) (named : Named) (nodes count : ℕ) (after : View) (r : Reply) → RepliesAfter e named nodes after r → length after.found < count → AreNoted count r
+noted_reply : (e : RunEnd) (named : NamedModel) (nodes count : ℕ) (after : View) (r : Reply) → RepliesAfter e named nodes after r → length after.found < count → AreNoted count r
 noted_reply end.Done named nodes count after r h more =
     subst (AreNoted count) (sym h.reply_is)
     (All-from_recursion (λ serial. serial < count) h.serials (places after.found count h.serials more (recursion_from_All (IsSerial (length after.found)) h.serials h.known)))
@@ -152,22 +150,22 @@ notes_long : (answer : FetchNote) (found : List (List ℤ)) (e : RunEnd) (nodes 
 notes_long answer [] e nodes = omega arith
 notes_long answer (x ∷ xs) e nodes = let h : length xs < length (entry.Fetched answer ∷ run_notes xs e nodes) = notes_long answer xs e nodes in omega (arith, h)
 
-noted : {names : List (List ℕ)} {m : ModelParts} {l : Listing} (answer : FetchNote) (entries : List Entry)
-    → IsListing names m l → entries ≡ entry.Fetched answer ∷ l.notes.items → AreNoted (length entries) l.reply
-noted {names} {m} {l} answer entries i e =
-    noted_reply s.ended (named_by names m) s.nodes (length entries) _ l.reply s.reply_is
-    (subst (λ es. length (after_run (read_view None [] (named_by names m)) i.found i.nodes).found < length es) (sym (e ∙ ap (λ es. entry.Fetched answer ∷ es) s.noted))
+noted : {named : NamedModel} {l : Listing} (answer : FetchNote) (entries : List Entry)
+    → IsListing named l → entries ≡ entry.Fetched answer ∷ l.notes.items → AreNoted (length entries) l.reply
+noted {named} {l} answer entries i e =
+    noted_reply s.ended named s.nodes (length entries) _ l.reply s.reply_is
+    (subst (λ es. length (after_run (read_view None [] named) i.found i.nodes).found < length es) (sym (e ∙ ap (λ es. entry.Fetched answer ∷ es) s.noted))
     (subst (λ xs. length xs < length (entry.Fetched answer ∷ run_notes s.found s.ended s.nodes)) (sym found) (notes_long answer s.found s.ended s.nodes)))
   where
-    s : ListsModel (named_by names m) (read_view None [] (named_by names m)) l.notes.items l.reply (after_run (read_view None [] (named_by names m)) i.found i.nodes)
-    s = listing_says None [] names m l i
+    s : ListsModel named (read_view None [] named) l.notes.items l.reply (after_run (read_view None [] named) i.found i.nodes)
+    s = listing_says None [] named l i
 
-    found : (after_run (read_view None [] (named_by names m)) i.found i.nodes).found ≡ s.found
+    found : (after_run (read_view None [] named) i.found i.nodes).found ≡ s.found
     found = ap (λ (v : View). v.found) s.after_is
 
-pub can_print : {names : List (List ℕ)} {m : ModelParts} {l : Listing} → FeasibleWithin m → (answer : FetchNote) (entries : List Entry)
-    → IsListing names m l → entries ≡ entry.Fetched answer ∷ l.notes.items → CanPrint l.names l.model entries l.reply
-can_print within answer entries i e = record { small = i.small; noted = noted answer entries i e; each = printable within answer entries i e }
+pub can_print : {named : NamedModel} {l : Listing} → FeasibleWithin named.model → length named.names ≡ length (root_of named.model) → (answer : FetchNote) (entries : List Entry)
+    → IsListing named l → entries ≡ entry.Fetched answer ∷ l.notes.items → CanPrint named entries l.reply
+can_print within paired answer entries i e = record { small = i.small; noted = noted answer entries i e; each = printable within paired answer entries i e }
 
 -- the note of a serial is that of its point
 note_of_point : (found : List (List ℤ)) (e : RunEnd) (nodes place : ℕ) → place < length found
@@ -176,35 +174,35 @@ note_of_point [] e nodes place h = absurd (omega arith)
 note_of_point (x ∷ xs) e nodes zero h = refl
 note_of_point (x ∷ xs) e nodes (suc place) h = note_of_point xs e nodes place (omega arith)
 
-line_of_serial : (names : List (List ℕ)) (m : ModelParts) (answer : FetchNote) (found : List (List ℤ)) (e : RunEnd) (nodes serial : ℕ) → IsSerial (length found) serial
-    → serial_line names m (entry.Fetched answer ∷ run_notes found e nodes) serial ≡ solution_line names m (point_of found serial)
+line_of_serial : (named : NamedModel) (answer : FetchNote) (found : List (List ℤ)) (e : RunEnd) (nodes serial : ℕ) → IsSerial (length found) serial
+    → serial_line named (entry.Fetched answer ∷ run_notes found e nodes) serial ≡ solution_line named.names named.model (point_of found serial)
 unfolding serial_line entry_line
-line_of_serial names m answer found e nodes zero h = absurd (let low : 1 ≤ 0 = h.first in omega (arith, low))
-line_of_serial names m answer found e nodes (suc place) h =
+line_of_serial named answer found e nodes zero h = absurd (let low : 1 ≤ 0 = h.first in omega (arith, low))
+line_of_serial named answer found e nodes (suc place) h =
     let below : place < length found = (let high : suc place ≤ length found = h.last in omega (arith, high)) in
-    ap (entry_line names m) (note_of_point found e nodes place below)
+    ap (entry_line named) (note_of_point found e nodes place below)
 
-lines_of_serials : (names : List (List ℕ)) (m : ModelParts) (answer : FetchNote) (found : List (List ℤ)) (e : RunEnd) (nodes : ℕ) (serials : List ℕ)
+lines_of_serials : (named : NamedModel) (answer : FetchNote) (found : List (List ℤ)) (e : RunEnd) (nodes : ℕ) (serials : List ℕ)
     → AllByRecursion (IsSerial (length found)) serials
-    → flat_map (serial_line names m (entry.Fetched answer ∷ run_notes found e nodes)) serials ≡ flat_map (solution_line names m) (map (point_of found) serials)
-lines_of_serials names m answer found e nodes [] all = refl
-lines_of_serials names m answer found e nodes (n ∷ ns) all =
-    ap (λ text. text ++ flat_map (serial_line names m (entry.Fetched answer ∷ run_notes found e nodes)) ns) (line_of_serial names m answer found e nodes n all.0)
-    ∙ ap (λ text. solution_line names m (point_of found n) ++ text) (lines_of_serials names m answer found e nodes ns all.1)
+    → flat_map (serial_line named (entry.Fetched answer ∷ run_notes found e nodes)) serials ≡ flat_map (solution_line named.names named.model) (map (point_of found) serials)
+lines_of_serials named answer found e nodes [] all = refl
+lines_of_serials named answer found e nodes (n ∷ ns) all =
+    ap (λ text. text ++ flat_map (serial_line named (entry.Fetched answer ∷ run_notes found e nodes)) ns) (line_of_serial named answer found e nodes n all.0)
+    ∙ ap (λ text. solution_line named.names named.model (point_of found n) ++ text) (lines_of_serials named answer found e nodes ns all.1)
 
 -- what is printed is the text of the reply
-text_fits : (named : Named) (answer : FetchNote) (found : List (List ℤ)) (e : RunEnd) (nodes : ℕ) (after : View) (r : Reply)
+text_fits : (named : NamedModel) (answer : FetchNote) (found : List (List ℤ)) (e : RunEnd) (nodes : ℕ) (after : View) (r : Reply)
     → after.model ≡ Some named → after.found ≡ found → RepliesAfter e named nodes after r
-    → printed_text named.names named.parts (entry.Fetched answer ∷ run_notes found e nodes) r ≡ reply_text after r
+    → printed_text named (entry.Fetched answer ∷ run_notes found e nodes) r ≡ reply_text after r
 unfolding printed_text
 text_fits named answer found end.Done nodes after r model same h =
-    ap (printed_text named.names named.parts (entry.Fetched answer ∷ run_notes found end.Done nodes)) h.reply_is
-    ∙ ap (λ text. done_head named.parts.maximize h.optimum (length h.serials) ++ text)
-    (lines_of_serials named.names named.parts answer found end.Done nodes h.serials
+    ap (printed_text named (entry.Fetched answer ∷ run_notes found end.Done nodes)) h.reply_is
+    ∙ ap (λ text. done_head named.model h.optimum (length h.serials) ++ text)
+    (lines_of_serials named answer found end.Done nodes h.serials
     (subst (λ xs. AllByRecursion (IsSerial (length xs)) h.serials) same (recursion_from_All (IsSerial (length after.found)) h.serials h.known)))
-    ∙ ap (λ n. done_head named.parts.maximize h.optimum n ++ flat_map (solution_line named.names named.parts) (map (point_of found) h.serials)) (sym (length-map h.serials (point_of found)))
+    ∙ ap (λ n. done_head named.model h.optimum n ++ flat_map (solution_line named.names named.model) (map (point_of found) h.serials)) (sym (length-map h.serials (point_of found)))
     ∙ sym (ap (reply_text after) h.reply_is ∙ ap (λ o. listed_text o after.found h.optimum h.serials) model ∙ ap (λ xs. listed_text (Some named) xs h.optimum h.serials) same)
-text_fits named answer found end.NodeLimit nodes after r model same h = ap (printed_text named.names named.parts (entry.Fetched answer ∷ run_notes found end.NodeLimit nodes)) h ∙ sym (ap (reply_text after) h)
+text_fits named answer found end.NodeLimit nodes after r model same h = ap (printed_text named (entry.Fetched answer ∷ run_notes found end.NodeLimit nodes)) h ∙ sym (ap (reply_text after) h)
 text_fits named answer found end.Optimal nodes after r model same h = absurd h
 text_fits named answer found end.Infeasible nodes after r model same h = absurd h
 text_fits named answer found end.PopulateLimit nodes after r model same h = absurd h
@@ -212,21 +210,21 @@ text_fits named answer found end.PopulateLimit nodes after r model same h = absu
 -- The run of one file.
 
 -- the file was read as this model, and it was listed
-list_said : {files : Option Files} {name bytes : List ℕ} {named : NamedModel} {l : Listing} {entries : List Entry} (i : IsListing named.names named.parts l)
+list_said : {files : Option Files} {name bytes : List ℕ} {named : NamedModel} {l : Listing} {entries : List Entry} (i : IsListing named l)
     → IsRead files name bytes named → entries ≡ entry.Fetched (note.Bytes bytes) ∷ l.notes.items
-    → IsFileRun files name entries (printed_text l.names l.model entries l.reply) (status_by (is_refused l.reply))
+    → IsFileRun files name entries (printed_text named entries l.reply) (status_by (is_refused l.reply))
 list_said {files} {name} {bytes} {named} {l} {entries} i read e = record {
   refused = is_refused l.reply;
   run = record {
     notes = entry.Fetched (note.Bytes bytes) ∷ [];
     rest = l.notes.items;
     divided = e;
-    read = reply.Read (length named.names) (length named.parts.rows);
-    after = read_view files bytes (named_of named);
+    read = reply.Read (length named.names) (length named.model.rows);
+    after = read_view files bytes named;
     says = read.says;
     then_is = record {
       listed = l.reply;
-      last = after_run (read_view files bytes (named_of named)) i.found i.nodes;
+      last = after_run (read_view files bytes named) i.found i.nodes;
       says = s;
       text_is = text;
       refused_is = refl;
@@ -235,21 +233,20 @@ list_said {files} {name} {bytes} {named} {l} {entries} i read e = record {
   status_is = refl;
 }
   where
-    s : ListsModel (named_of named) (read_view files bytes (named_of named)) l.notes.items l.reply (after_run (read_view files bytes (named_of named)) i.found i.nodes)
-    s = listing_says files bytes named.names named.parts l i
+    s : ListsModel named (read_view files bytes named) l.notes.items l.reply (after_run (read_view files bytes named) i.found i.nodes)
+    s = listing_says files bytes named l i
 
-    found : (after_run (read_view files bytes (named_of named)) i.found i.nodes).found ≡ s.found
+    found : (after_run (read_view files bytes named) i.found i.nodes).found ≡ s.found
     found = ap (λ (v : View). v.found) s.after_is
 
-    text : printed_text l.names l.model entries l.reply ≡ reply_text (after_run (read_view files bytes (named_of named)) i.found i.nodes) l.reply
+    text : printed_text named entries l.reply ≡ reply_text (after_run (read_view files bytes named) i.found i.nodes) l.reply
     text =
-        ap (λ ns. printed_text ns l.model entries l.reply) i.names_are ∙ ap (λ p. printed_text named.names p entries l.reply) i.model_is
-        ∙ ap (λ es. printed_text named.names named.parts es l.reply) (e ∙ ap (λ es. entry.Fetched (note.Bytes bytes) ∷ es) s.noted)
-        ∙ text_fits (named_of named) (note.Bytes bytes) s.found s.ended s.nodes (after_run (read_view files bytes (named_of named)) i.found i.nodes) l.reply refl found s.reply_is
+        ap (λ es. printed_text named es l.reply) (e ∙ ap (λ es. entry.Fetched (note.Bytes bytes) ∷ es) s.noted)
+        ∙ text_fits named (note.Bytes bytes) s.found s.ended s.nodes (after_run (read_view files bytes named) i.found i.nodes) l.reply refl found s.reply_is
 
-pub list_ended : {k : Bool} {bytes : List ℕ} {named : NamedModel} {l : Listing} {before entries : List Entry} {s : Status} {old new : SinkState} (i : IsListing named.names named.parts l)
+pub list_ended : {k : Bool} {bytes : List ℕ} {named : NamedModel} {l : Listing} {before entries : List Entry} {s : Status} {old new : SinkState} (i : IsListing named l)
     → before ≡ entry.Fetched (note.Bytes bytes) ∷ l.notes.items → entries ≡ before
-    → Answered k (status_by (is_refused l.reply)) s old new (printed_text l.names l.model before l.reply)
+    → Answered k (status_by (is_refused l.reply)) s old new (printed_text named before l.reply)
     → (files : Option Files) (name : List ℕ) → IsRead files name bytes named → Ended k (IsFileRun files name) (unsaid_of files name) entries s old new
 list_ended {k} {bytes} {named} {l} {before} {entries} {s} {old} {new} i e same a files name read =
     subst (λ es. Ended k (IsFileRun files name) (unsaid_of files name) es s old new) (sym same)
@@ -268,8 +265,8 @@ wants_list : {files : Option Files} {name bytes : List ℕ} {named : NamedModel}
     → unsaid_of files name entries
 wants_list {files} {name} {bytes} {named} {entries} read e = record { noted = inr (bytes, e, told) }
   where
-    s : SaysRead (begun first_settings files) name (entry.Fetched (note.Bytes bytes) ∷ []) (reply.Read (length named.names) (length named.parts.rows))
-        (with_model (fetched_more (begun first_settings files) (length bytes)) (named_of named))
+    s : SaysRead (begun first_settings files) name (entry.Fetched (note.Bytes bytes) ∷ []) (reply.Read (length named.names) (length named.model.rows))
+        (with_model (fetched_more (begun first_settings files) (length bytes)) named)
     s = read.says
 
     same : s.answer ≡ note.Bytes bytes
@@ -284,7 +281,7 @@ wanting_list k sink is e files name read = wanting k (IsFileRun files name) (uns
 
 -- a refused read
 refused_said : {files : Option Files} {name : List ℕ} {notes entries : List Entry} (why : Refusal) {after : View} → SaysRead (begun first_settings files) name notes (reply.Refused why) after → entries ≡ notes
-    → IsFileRun files name entries (spelling (refusal_wording why)) status.SomeRefused
+    → IsFileRun files name entries (refusal_text why) status.SomeRefused
 refused_said {files} {name} {notes} {entries} why {after} says e = record {
   refused = true;
   run = record {
@@ -300,14 +297,14 @@ refused_said {files} {name} {notes} {entries} why {after} says e = record {
 }
 
 read_refused : (files : Option Files) (name : List ℕ) (entries : List Entry) (answer : FetchNote) (why : Refusal) → ReadSays (begun first_settings files) name (ended.Refused answer why)
-    → entries ≡ entry.Fetched answer ∷ [] → IsFileRun files name entries (spelling (refusal_wording why)) status.SomeRefused
+    → entries ≡ entry.Fetched answer ∷ [] → IsFileRun files name entries (refusal_text why) status.SomeRefused
 read_refused files name entries (note.Bytes bytes) why says e = refused_said why says e
 read_refused files name entries note.Absent why says e = refused_said why says e
 read_refused files name entries note.TooLong why says e = refused_said why says e
 read_refused files name entries note.Failed why says e = refused_said why says e
 
 pub refusal_ended : {k : Bool} {entries : List Entry} {s : Status} {old new : SinkState} (files : Option Files) (name : List ℕ) (answer : FetchNote) (why : Refusal)
-    → ReadSays (begun first_settings files) name (ended.Refused answer why) → entries ≡ entry.Fetched answer ∷ [] → Answered k status.SomeRefused s old new (spelling (refusal_wording why))
+    → ReadSays (begun first_settings files) name (ended.Refused answer why) → entries ≡ entry.Fetched answer ∷ [] → Answered k status.SomeRefused s old new (refusal_text why)
     → Ended k (IsFileRun files name) (unsaid_of files name) entries s old new
 refusal_ended {entries = entries} files name answer why says e a =
     ended_of (IsFileRun files name) (unsaid_of files name) entries status.SomeRefused tt (read_refused files name entries answer why says e) a
@@ -348,14 +345,34 @@ own_answers {first} {entries} {old} {new} n a = subst (λ es. AreAnswers es old 
 pub first_noted : {empty mid whole : List Entry} (rest : List Entry) (first : Entry) → whole ≡ mid ++ rest → mid ≡ empty ++ first ∷ [] → empty ≡ [] → whole ≡ first ∷ rest
 first_noted rest first e f none = e ∙ ap (λ es. es ++ rest) (f ∙ ap (λ es. es ++ first ∷ []) none)
 
-pub usage_ended : {k : Bool} (files : Option Files) (file : Option (List ℕ)) (entries : List Entry) {s : Status} {old new : SinkState} → file ≡ None → entries ≡ []
-    → Answered k status.Usage s old new (spelling wording.Usage) → Ended k (RunText files file) (RunUnsaid files file) entries s old new
-usage_ended {k} files file entries {s} {old} {new} none e a =
-    subst (λ f. Ended k (RunText files f) (RunUnsaid files f) entries s old new) (sym none) (ended_of IsUsage (λ es. ⊥) entries status.Usage tt (record { nothing_noted = e; line = refl; status_is = refl }) a)
+pub usage_ended : {k : Bool} (files : Option Files) (words : List (List ℕ)) (entries : List Entry) {s : Status} {old new : SinkState} → file_word words ≡ None → entries ≡ []
+    → Answered k status.Usage s old new (spelling wording.Usage) → Ended k (RunText files (asked words)) (RunUnsaid files (asked words)) entries s old new
+usage_ended {k} files words entries {s} {old} {new} none e a =
+    subst (λ f. Ended k (RunText files (asked_by_word f)) (RunUnsaid files (asked_by_word f)) entries s old new) (sym none)
+    (ended_of IsUsage (λ es. ⊥) entries status.Usage tt (record { nothing_noted = e; line = refl; status_is = refl }) a)
+
+-- the name has another ending
+asked_other : (words : List (List ℕ)) (name : List ℕ) → file_word words ≡ Some name → format_of name ≡ None → asked words ≡ OtherFile
+asked_other words name some none = ap asked_by_word some ∙ ap (asked_by_format name) none
+
+pub other_ended : {k : Bool} (files : Option Files) (words : List (List ℕ)) (name : List ℕ) (entries : List Entry) {s : Status} {old new : SinkState} → file_word words ≡ Some name → format_of name ≡ None
+    → entries ≡ [] → Answered k status.SomeRefused s old new (spelling wording.BadArgument) → Ended k (RunText files (asked words)) (RunUnsaid files (asked words)) entries s old new
+other_ended {k} files words name entries {s} {old} {new} some none e a =
+    subst (λ w. Ended k (RunText files w) (RunUnsaid files w) entries s old new) (sym (asked_other words name some none))
+    (ended_of IsOtherFile (λ es. ⊥) entries status.SomeRefused tt (record { nothing_noted = e; line = refl; status_is = refl }) a)
+
+-- the name is that of a model file
+pub asked_file : (words : List (List ℕ)) (name : List ℕ) (format : FileFormat) → file_word words ≡ Some name → format_of name ≡ Some format → asked words ≡ ModelFile name
+asked_file words name format some is = ap asked_by_word some ∙ ap (asked_by_format name) is
 
 -- there was no room for the shelf's answer
-pub no_room_ended : (k : Bool) (sink : SinkState) (files : Option Files) (file : Option (List ℕ)) (name : List ℕ) (entries : List Entry) (s : Status)
-    → file ≡ Some name → entries ≡ [] → s ≡ status.NoMemory → Ended k (RunText files file) (RunUnsaid files file) entries s sink sink
-no_room_ended k sink files file name entries s some e is =
-    subst (λ f. Ended k (RunText files f) (RunUnsaid files f) entries s sink sink) (sym some)
-    (wanting k (RunText files (Some name)) (RunUnsaid files (Some name)) sink is (record { noted = inl e }))
+pub no_room_ended : (k : Bool) (sink : SinkState) (files : Option Files) (words : List (List ℕ)) (name : List ℕ) (entries : List Entry) (s : Status)
+    → asked words ≡ ModelFile name → entries ≡ [] → s ≡ status.NoMemory → Ended k (RunText files (asked words)) (RunUnsaid files (asked words)) entries s sink sink
+no_room_ended k sink files words name entries s file e is =
+    subst (λ w. Ended k (RunText files w) (RunUnsaid files w) entries s sink sink) (sym file)
+    (wanting k (IsFileRun files name) (unsaid_of files name) sink is (record { noted = inl e }))
+
+-- the file was read and listed, or refused
+pub file_ended : (k : Bool) (files : Option Files) (words : List (List ℕ)) (name : List ℕ) (entries : List Entry) (s : Status) (old new : SinkState)
+    → asked words ≡ ModelFile name → Ended k (IsFileRun files name) (unsaid_of files name) entries s old new → Ended k (RunText files (asked words)) (RunUnsaid files (asked words)) entries s old new
+file_ended k files words name entries s old new file ended = subst (λ w. Ended k (RunText files w) (RunUnsaid files w) entries s old new) (sym file) ended

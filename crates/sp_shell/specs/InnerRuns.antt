@@ -2,9 +2,9 @@
 use Rattle.std.specs.Prelude.{◌≡◌, ℕ, List, ◌∷◌, Bool, true, false, IsTrue, Option}
 use Rattle.std.specs.List.{list_all}
 use Rattle.sp_base.specs.Shelf.{Files}
-use Rattle.sp_small_lp.specs.declared.reading.NamedModel.{NamedModel}
 use Rattle.sp_engine.specs.declared.journals.Entry.{Entry}
 use Rattle.sp_engine.specs.declared.journals.Entry.TheVariants as entry
+use Rattle.sp_engine.specs.declared.models.NamedModel.{NamedModel}
 use Rattle.sp_engine.specs.declared.reading.ReadEnd.TheVariants as ended
 use Rattle.sp_engine.specs.LegalRuns.{first_settings}
 use Rattle.sp_engine.specs.ReadEnds.{ReadSays}

@@ -1,58 +1,33 @@
 -- The text of the replies.
-use Rattle.std.specs.Prelude.{ℕ, Bool, cond, List, [], ◌∷◌, ◌++◌, length, map, flat_map}
-use Rattle.std.specs.Prelude.{Option, None, Some, ℤ, pos, neg_ℤ}
-use Rattle.std.specs.Ordering.{int_eq}
-use Rattle.std.specs.Fmt.{decimal, signed_decimal}
+use Rattle.std.specs.Prelude.{ℕ, ◌+◌, List, [], ◌++◌, length, map, flat_map, Option, None, Some, ℤ}
+use Rattle.std.specs.Fmt.{decimal}
+use Rattle.sp_draft.specs.SolutionLines.{objective_text, solution_line}
 use Rattle.sp_model.specs.declared.parts.ModelParts.{ModelParts}
-use Rattle.sp_model.specs.Models.{objective}
+use Rattle.sp_engine.specs.declared.models.NamedModel.{NamedModel}
+use Rattle.sp_engine.specs.declared.replies.Refusal.{Refusal}
+use Rattle.sp_engine.specs.declared.replies.Refusal.TheVariants as refusal
 use Rattle.sp_engine.specs.declared.replies.Reply.{Reply}
 use Rattle.sp_engine.specs.declared.replies.Reply.TheVariants as reply
-use Rattle.sp_engine.specs.Views.{Named, View, point_of}
+use Rattle.sp_engine.specs.Views.{View, point_of}
 use Rattle.sp_shell.specs.declared.wordings.Wording.TheVariants as wording
 use Rattle.sp_shell.specs.Wording.{refusal_wording, spelling}
 
--- an objective as the user reads it: negated back where the user maximises. The models of the small grammar have scale
--- 0, so the whole number is what is printed.
-abbrev pub in_user_direction : Bool → ℤ → ℤ
-in_user_direction maximize v = cond maximize (neg_ℤ v) v
-
--- a variable with its value, where that isn't zero
-unfoldable pub named_value : List ℕ → ℤ → List ℕ
-named_value name v =
-    cond (int_eq v (pos 0)) [] (spelling wording.Blank ++ name ++ spelling wording.Blank ++ signed_decimal v)
-
--- the variables that aren't zero with their values, in declared order
-abbrev pub named_values : List (List ℕ) → List ℤ → List ℕ
-named_values [] xs = []
-named_values (n ∷ ns) [] = []
-named_values (n ∷ ns) (x ∷ xs) = named_value n x ++ named_values ns xs
-
--- the line of a point of this objective: the objective, a blank and a colon, and the variables that aren't zero
-abbrev pub point_line : List (List ℕ) → Bool → ℤ → List ℤ → List ℕ
-point_line names maximize v x =
-    signed_decimal (in_user_direction maximize v) ++ spelling wording.Colon ++ named_values names x
-    ++ spelling wording.LineEnd
-
--- the line of a point of the model
-abbrev pub solution_line : List (List ℕ) → ModelParts → List ℤ → List ℕ
-solution_line names m x = point_line names m.maximize (objective m x) x
-
--- the line of the optimum, or the one that says that there is none
-unfoldable pub optimum_line : Bool → Option ℤ → List ℕ
-optimum_line maximize None = spelling wording.Infeasible
-optimum_line maximize (Some v) =
-    spelling wording.Optimum ++ signed_decimal (in_user_direction maximize v) ++ spelling wording.LineEnd
+-- the line of the optimum in the user's direction and unit, or the one that says that there is none
+unfoldable pub optimum_line : ModelParts → Option ℤ → List ℕ
+optimum_line m None = spelling wording.Infeasible
+optimum_line m (Some v) =
+    spelling wording.Optimum ++ objective_text m.maximize m.scale v ++ spelling wording.LineEnd
 
 -- what stands before the solution lines of a complete list
-abbrev pub done_head : Bool → Option ℤ → ℕ → List ℕ
-done_head maximize best number =
-    spelling wording.StatusDone ++ optimum_line maximize best
+abbrev pub done_head : ModelParts → Option ℤ → ℕ → List ℕ
+done_head m best number =
+    spelling wording.StatusDone ++ optimum_line m best
     ++ (spelling wording.Solutions ++ decimal number ++ spelling wording.LineEnd)
 
 -- the reply of a complete list of these points
-abbrev pub done_text : Named → Option ℤ → List (List ℤ) → List ℕ
+abbrev pub done_text : NamedModel → Option ℤ → List (List ℤ) → List ℕ
 done_text named best xs =
-    done_head named.parts.maximize best (length xs) ++ flat_map (solution_line named.names named.parts) xs
+    done_head named.model best (length xs) ++ flat_map (solution_line named.names named.model) xs
 
 -- the reply of a run that the node limit stopped
 unfoldable pub stopped_text : ℕ → List ℕ
@@ -62,10 +37,35 @@ stopped_text nodes =
 -- the reply of an accepted read
 abbrev pub read_text : ℕ → ℕ → List ℕ
 read_text variables rows =
-    spelling wording.ReadVariables ++ decimal variables ++ spelling wording.Rows ++ decimal rows ++ spelling wording.LineEnd
+    spelling wording.ReadVariables ++ decimal variables ++ spelling wording.Rows ++ decimal rows
+    ++ spelling wording.LineEnd
+
+-- the argument of a refusal: a line, a name, or the number of a row, an indicator or a set, counted from 1
+abbrev pub refusal_argument : Refusal → List ℕ
+refusal_argument (refusal.Syntax line) = decimal line
+refusal_argument (refusal.WideNumeral line) = decimal line
+refusal_argument (refusal.Continuous name) = name
+refusal_argument (refusal.OpenVariable name) = name
+refusal_argument (refusal.WideBound name) = name
+refusal_argument (refusal.WideRow row) = decimal (row + 1)
+refusal_argument refusal.WideObjective = []
+refusal_argument (refusal.DuplicateName line) = decimal line
+refusal_argument (refusal.UnknownName line) = decimal line
+refusal_argument (refusal.Unsupported line) = decimal line
+refusal_argument (refusal.NegativeUpper name) = name
+refusal_argument (refusal.TooMany much) = []
+refusal_argument (refusal.BadIndicator place) = decimal (place + 1)
+refusal_argument (refusal.BadSos place) = decimal (place + 1)
+refusal_argument refusal.FileAbsent = []
+refusal_argument refusal.FileFault = []
+refusal_argument refusal.FileTooLong = []
+
+-- the reply of a refused command
+abbrev pub refusal_text : Refusal → List ℕ
+refusal_text why = spelling (refusal_wording why) ++ refusal_argument why ++ spelling wording.LineEnd
 
 -- the reply that lists these serials; without a model there is none
-abbrev pub listed_text : Option Named → List (List ℤ) → Option ℤ → List ℕ → List ℕ
+abbrev pub listed_text : Option NamedModel → List (List ℤ) → Option ℤ → List ℕ → List ℕ
 listed_text None found best serials = []
 listed_text (Some named) found best serials = done_text named best (map (point_of found) serials)
 
@@ -74,4 +74,4 @@ abbrev pub reply_text : View → Reply → List ℕ
 reply_text after (reply.Read variables rows) = read_text variables rows
 reply_text after (reply.Listed optimum serials) = listed_text after.model after.found optimum serials
 reply_text after (reply.Stopped nodes) = stopped_text nodes
-reply_text after (reply.Refused why) = spelling (refusal_wording why)
+reply_text after (reply.Refused why) = refusal_text why

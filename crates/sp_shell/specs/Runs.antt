@@ -6,8 +6,10 @@ use Rattle.sp_base.specs.Shelf.{Files}
 use Rattle.sp_base.specs.declared.statuses.Status.{Status}
 use Rattle.sp_base.specs.declared.statuses.Status.TheVariants as status
 use Rattle.sp_engine.specs.declared.commands.Command.TheVariants as command
+use Rattle.sp_engine.specs.declared.formats.FileFormat.{FileFormat}
 use Rattle.sp_engine.specs.declared.journals.Entry.{Entry}
 use Rattle.sp_engine.specs.declared.replies.Reply.{Reply}
+use Rattle.sp_engine.specs.Formats.{format_of}
 use Rattle.sp_engine.specs.LegalRuns.{first_settings}
 use Rattle.sp_engine.specs.Reading.{WantsInRead}
 use Rattle.sp_engine.specs.Replies.{is_refused}
@@ -25,6 +27,24 @@ file_word [] = None
 file_word ([] ∷ []) = Some []
 file_word ((b ∷ bs) ∷ []) = if b == 45 then None else Some (b ∷ bs)
 file_word (v ∷ w ∷ ws) = None
+
+-- what the words ask for: nothing, as they are no reading; a file whose name has another ending than a model's; the
+-- list of a file's model
+pub data Asked : Type 0 where
+  Nothing : Asked
+  OtherFile : Asked
+  ModelFile : List ℕ → Asked
+
+abbrev pub asked_by_format : List ℕ → Option FileFormat → Asked
+asked_by_format name None = OtherFile
+asked_by_format name (Some format) = ModelFile name
+
+abbrev pub asked_by_word : Option (List ℕ) → Asked
+asked_by_word None = Nothing
+asked_by_word (Some name) = asked_by_format name (format_of name)
+
+abbrev pub asked : List (List ℕ) → Asked
+asked words = asked_by_word (file_word words)
 
 -- The run of one file: it is read, and where it isn't refused, its solutions are listed.
 
@@ -69,6 +89,12 @@ pub record IsUsage (entries : List Entry) (text : List ℕ) (s : Status) : Type 
   pub line : text ≡ spelling wording.Usage
   pub status_is : s ≡ status.Usage
 
+-- the words name a file whose name has another ending: the shelf isn't asked for it
+pub record IsOtherFile (entries : List Entry) (text : List ℕ) (s : Status) : Type 0 where
+  pub nothing_noted : entries ≡ []
+  pub line : text ≡ spelling wording.BadArgument
+  pub status_is : s ≡ status.SomeRefused
+
 -- the words name this file
 pub record IsFileRun (files : Option Files) (name : List ℕ) (entries : List Entry) (text : List ℕ) (s : Status)
     : Type 0 where
@@ -83,15 +109,17 @@ Saying = List Entry → List ℕ → Status → Type 0
 abbrev pub Unsaid : Type 1
 Unsaid = List Entry → Type 0
 
--- what a run says over a shelf with these files, once it is known which file the words name
-abbrev pub RunText : Option Files → Option (List ℕ) → Saying
-RunText files None = IsUsage
-RunText files (Some name) = IsFileRun files name
+-- what a run says over a shelf with these files, once it is known what the words ask for
+abbrev pub RunText : Option Files → Asked → Saying
+RunText files Nothing = IsUsage
+RunText files OtherFile = IsOtherFile
+RunText files (ModelFile name) = IsFileRun files name
 
--- the notes with which memory can be wanting before any text goes out: none where the words are no reading
-abbrev pub RunUnsaid : Option Files → Option (List ℕ) → Unsaid
-RunUnsaid files None = λ entries. ⊥
-RunUnsaid files (Some name) = WantsInRead (begun first_settings files) name
+-- the notes with which memory can be wanting before any text goes out: none where the shelf isn't asked
+abbrev pub RunUnsaid : Option Files → Asked → Unsaid
+RunUnsaid files Nothing = λ entries. ⊥
+RunUnsaid files OtherFile = λ entries. ⊥
+RunUnsaid files (ModelFile name) = WantsInRead (begun first_settings files) name
 
 -- What went out.
 

@@ -1,14 +1,6 @@
 //! What the clauses leave open: that there is memory, and that the text is what its readers expect.
 //!
-//! The expected texts come from readings by hand, and those with rows from a search over all points that knows
-//! nothing of this program. In Python, for variables `names`, an objective `cost`, rows `(terms, side)`, and `sign`
-//! -1 where the user maximises:
-//!
-//!     points = [p for p in itertools.product((0, 1), repeat=len(names))
-//!               if all(sum(a * p[names.index(n)] for a, n in terms) <= side for terms, side in rows)]
-//!     value = lambda p: sum(a * p[names.index(n)] for a, n in cost)
-//!     best = min((sign * value(p) for p in points), default=None)
-//!     listed = [p for p in points if sign * value(p) == best]
+//! The expected texts are worked out by hand.
 ghost use Rattle.std.specs.Prelude.{◌≤◌};
 
 use crate::run;
@@ -29,10 +21,15 @@ fn word_list(alloc: Global, given: &[&[u8]]) -> Result<WordList, AllocError> {
     Ok(words)
 }
 
-/// A shelf with the one file `m.lp`.
-fn one_file(alloc: Global, bytes: &[u8], failing: &[u64]) -> Result<MemShelf, AllocError> {
+/// A shelf with the one file of this name.
+fn one_file(
+    alloc: Global,
+    name: &[u8],
+    bytes: &[u8],
+    failing: &[u64],
+) -> Result<MemShelf, AllocError> {
     let mut files = Vec::new(alloc);
-    files.push((text(alloc, b"m.lp")?, Vec::from_slice(alloc, bytes)?))?;
+    files.push((text(alloc, name)?, Vec::from_slice(alloc, bytes)?))?;
     Ok(MemShelf::new(alloc, files, Vec::from_slice(alloc, failing)?))
 }
 
@@ -49,14 +46,14 @@ fn run_over(
     Ok((ending.status, ending.journal.entries.len()))
 }
 
-/// A file, what is printed, and the status.
-type Printed = (&'static [u8], &'static [u8], Status);
+/// The name of a file, its bytes, what is printed, and the status.
+type Printed = (&'static [u8], &'static [u8], &'static [u8], Status);
 
 fn prints(alloc: Global, case: &Printed) -> Result<bool, AllocError> {
-    let (file, wanted, status) = case;
-    let mut shelf = one_file(alloc, file, &[])?;
+    let (name, file, wanted, status) = case;
+    let mut shelf = one_file(alloc, name, file, &[])?;
     let mut sink = MemSink::new(alloc, 1_000, Vec::new(alloc));
-    let (answer, _) = run_over(alloc, &[b"m.lp"], &mut shelf, &mut sink)?;
+    let (answer, _) = run_over(alloc, &[*name], &mut shelf, &mut sink)?;
     Ok(answer == *status && sink.bytes() == *wanted)
 }
 
@@ -70,183 +67,540 @@ fn first_wrong(alloc: Global, cases: &[Printed]) -> Result<Option<usize>, AllocE
     Ok(None)
 }
 
-const REFUSED: &[u8] = b"refused 1 syntax line 1\n";
-
-/// Files that are accepted.
-static LISTS: [Printed; 15] = [
+/// Files of each kind, with their lists or their refusals.
+static FILES: [Printed; 36] = [
+    // two binaries that exclude each other
     (
-        b"Minimize\n obj:\nBinaries\n x y z\nEnd\n",
-        b"status done\noptimum 0\nsolutions 8\n0 :\n0 : z 1\n0 : y 1\n0 : y 1 z 1\n0 : x 1\n0 : x 1 z 1\n0 : x 1 y 1\n0 : x 1 y 1 z 1\n",
-        Status::Clean,
-    ),
-    // a name of nine characters
-    (
-        b"Minimize\nobj:\nBinaries\nx12345678\nEnd\n",
-        b"status done\noptimum 0\nsolutions 2\n0 :\n0 : x12345678 1\n",
-        Status::Clean,
-    ),
-    // no line feed at the end, and blanks in front and between
-    (
-        b"Minimize\n  obj:   x\nSubject   To\nBinaries\n x\n End",
-        b"status done\noptimum 0\nsolutions 1\n0 :\n",
-        Status::Clean,
-    ),
-    (
-        b"Minimize\nobj:\nBinaries\nx1 x2 x3 x4 x5 x6 x7 x8 x9 x10 x11 x12 x13 x14 x15 x16 x17\nEnd\n",
-        b"status nodelimit\nnodes 199999\n",
-        Status::Clean,
-    ),
-    (
-        b"Maximize\n obj: 3 x + 2 y\nSubject To\n c1: x + y <= 1\nBinaries\n x y\nEnd\n",
+        b"m.lp",
+        b"Maximize
+ obj: 3 x + 2 y
+Subject To
+ c1: x + y <= 1
+Binaries
+ x y
+End
+",
         b"status done\noptimum 3\nsolutions 1\n3 : x 1\n",
         Status::Clean,
     ),
+    // decimals and general integers
     (
-        b"Minimize\n obj: x\nSubject To\n c1: x <= -1\nBinaries\n x\nEnd\n",
+        b"m.lp",
+        b"Minimize
+obj:
+Subject To
+c1: 0.1 x + 0.2 y = 0.3
+Bounds
+x <= 3
+y <= 3
+Generals
+x y
+End
+",
+        b"status done\noptimum 0\nsolutions 2\n0 : x 1 y 1\n0 : x 3\n",
+        Status::Clean,
+    ),
+    // a decimal objective, maximised, with a constant, and a two-sided row
+    (
+        b"m.lp",
+        b"Maximize
+obj: 0.5 x - 0.25 y + 1.3
+Subject To
+c: -1 <= x - y <= 1.5
+Bounds
+-1 <= x <= 2
+y <= 1
+Generals
+x y
+End
+",
+        b"status done\noptimum 2.05\nsolutions 1\n2.05 : x 2 y 1\n",
+        Status::Clean,
+    ),
+    // an MPS file with markers and a range, minimised and maximised
+    (
+        b"m.mps",
+        b"NAME          DEMO
+ROWS
+ N  COST
+ E  R1
+COLUMNS
+    M1        'MARKER'                 'INTORG'
+    X         COST         1   R1           1
+    Y         COST         1   R1          -1
+    M2        'MARKER'                 'INTEND'
+RHS
+    RHS       COST         5   R1           0
+RANGES
+    RNG       R1          -1
+ENDATA
+",
+        b"status done\noptimum -5\nsolutions 1\n-5 :\n",
+        Status::Clean,
+    ),
+    (
+        b"m.mps",
+        b"NAME          DEMO
+OBJSENSE
+    MAX
+ROWS
+ N  COST
+ E  R1
+COLUMNS
+    M1        'MARKER'                 'INTORG'
+    X         COST         1   R1           1
+    Y         COST         1   R1          -1
+    M2        'MARKER'                 'INTEND'
+RHS
+    RHS       COST         5   R1           0
+RANGES
+    RNG       R1          -1
+ENDATA
+",
+        b"status done\noptimum -3\nsolutions 1\n-3 : X 1 Y 1\n",
+        Status::Clean,
+    ),
+    // one model as an LP file and as an MPS file, under names in capitals
+    (
+        b"m.LP",
+        b"Minimize
+obj: - x - 2 y
+Subject To
+r: 3 x + 4 y <= 12
+Bounds
+x <= 3
+y <= 2
+Generals
+x y
+End
+",
+        b"status done\noptimum -5\nsolutions 1\n-5 : x 1 y 2\n",
+        Status::Clean,
+    ),
+    (
+        b"dir.lp/m.Mps",
+        b"ROWS
+ N obj
+ L r
+COLUMNS
+ m 'MARKER' 'INTORG'
+ x obj -1 r 3
+ y obj -2 r 4
+ n 'MARKER' 'INTEND'
+RHS
+ s r 12
+BOUNDS
+ UP b x 3
+ UP b y 2
+ENDATA
+",
+        b"status done\noptimum -5\nsolutions 1\n-5 : x 1 y 2\n",
+        Status::Clean,
+    ),
+    // an indicator and a set of kind 2; weights that are equal
+    (
+        b"m.lp",
+        b"Minimize
+obj: - x - y - z
+Subject To
+i1: x = 1 -> z <= 0
+Binaries
+x y z
+SOS
+s1: S2:: x:3 y:1 z:2
+End
+",
+        b"status done\noptimum -2\nsolutions 1\n-2 : y 1 z 1\n",
+        Status::Clean,
+    ),
+    (
+        b"m.lp",
+        b"Minimize
+obj: - x - y - z
+Subject To
+i1: x = 1 -> z <= 0
+Binaries
+x y z
+SOS
+s1: S2:: x:3 y:2 z:2
+End
+",
+        b"refused 14 bad sos 1\n",
+        Status::SomeRefused,
+    ),
+    // as CPLEX writes it
+    (
+        b"m.lp",
+        b"\\ENCODING=ISO-8859-1
+\\Problem name: knap
+
+Maximize
+ obj: 5 x1 + 4 x2 + 4 x3
+Subject To
+ c1: 2 x1 + 3 x2 + x3 <= 5
+ c2: 4 x1 + x2 + 2 x3 <= 11
+ c3: 3 x1 + 4 x2 + 2 x3 <= 8
+Bounds
+ 0 <= x1 <= 1
+ 0 <= x2 <= 1
+ 0 <= x3 <= 1
+Binaries
+ x1  x2  x3 
+End
+",
+        b"status done\noptimum 9\nsolutions 2\n9 : x1 1 x3 1\n9 : x1 1 x2 1\n",
+        Status::Clean,
+    ),
+    // bounds that rows close, and a semi-integer variable
+    (
+        b"m.lp",
+        b"Minimize
+obj: - x
+Subject To
+c1: x + y <= 3
+Generals
+x y
+End
+",
+        b"status done\noptimum -3\nsolutions 1\n-3 : x 3\n",
+        Status::Clean,
+    ),
+    (
+        b"m.lp",
+        b"Minimize
+obj: x
+Subject To
+c1: x >= 1
+Bounds
+3 <= x <= 5
+Generals
+x
+Semis
+x
+End
+",
+        b"status done\noptimum 3\nsolutions 1\n3 : x 3\n",
+        Status::Clean,
+    ),
+    // no feasible point
+    (
+        b"m.lp",
+        b"Maximize
+ obj: 3 x + 2 y
+Subject To
+ c1: x + y >= 3
+Binaries
+ x y
+End
+",
         b"status done\ninfeasible\nsolutions 0\n",
         Status::Clean,
     ),
-    // optima that tie, with the variables in the order in which they first come
+    // ties in lexicographic order, with the variables in the order in which they first come
     (
-        b"Maximize\n obj: x + y + z\nSubject To\n c1: x + y + z <= 2\nBinaries\n z y x\nEnd\n",
-        b"status done\noptimum 2\nsolutions 3\n2 : y 1 z 1\n2 : x 1 z 1\n2 : x 1 y 1\n",
-        Status::Clean,
-    ),
-    (
-        b"Minimize\nobj:\nSubject To\nc1: y + x <= 0\nBinaries\nx y z\nEnd\n",
-        b"status done\noptimum 0\nsolutions 2\n0 :\n0 : z 1\n",
-        Status::Clean,
-    ),
-    // coefficients of nine digits
-    (
-        b"Maximize\nobj: 999999999 x + 999999999 y - 999999999 z\nSubject To\nc1: 999999999 x + 999999999 y - 999999999 z <= 999999999\nBinaries\nx y z\nEnd\n",
-        b"status done\noptimum 999999999\nsolutions 3\n999999999 : y 1\n999999999 : x 1\n999999999 : x 1 y 1 z 1\n",
-        Status::Clean,
-    ),
-    (
-        b"Minimize\nobj: - 999999999 x - 999999999 y\nBinaries\nx y\nEnd\n",
-        b"status done\noptimum -1999999998\nsolutions 1\n-1999999998 : x 1 y 1\n",
-        Status::Clean,
-    ),
-    // a side with a minus, minimised and maximised
-    (
-        b"Minimize\nobj: 2 x + 3 y\nSubject To\nc1: - x - y <= -1\nBinaries\nx y\nEnd\n",
-        b"status done\noptimum 2\nsolutions 1\n2 : x 1\n",
-        Status::Clean,
-    ),
-    (
-        b"Maximize\nobj: - 2 x\nSubject To\nc1: - x <= -1\nBinaries\nx\nEnd\n",
-        b"status done\noptimum -2\nsolutions 1\n-2 : x 1\n",
-        Status::Clean,
-    ),
-    // a variable that stands more than once
-    (
-        b"Maximize\nobj: x + x - 3 y + y\nBinaries\nx y\nEnd\n",
-        b"status done\noptimum 2\nsolutions 1\n2 : x 1\n",
-        Status::Clean,
-    ),
-    (
-        b"Maximize\nobj: 007 x\nSubject To\nc1: 2 x - y - y <= 1\nBinaries\ny x\nEnd\n",
-        b"status done\noptimum 7\nsolutions 1\n7 : x 1 y 1\n",
+        b"m.lp",
+        b"Minimize
+ obj:
+Binaries
+ x y z
+End
+",
+        b"status done
+optimum 0
+solutions 8
+0 :
+0 : z 1
+0 : y 1
+0 : y 1 z 1
+0 : x 1
+0 : x 1 z 1
+0 : x 1 y 1
+0 : x 1 y 1 z 1
+",
         Status::Clean,
     ),
     // all 65,536 points are found, and one is listed
     (
-        b"Maximize\nobj: a + b + c + d + e + f + g + h + i + j + k + l + m + n + o + p\nBinaries\na b c d e f g h i j k l m n o p\nEnd\n",
-        b"status done\noptimum 16\nsolutions 1\n16 : a 1 b 1 c 1 d 1 e 1 f 1 g 1 h 1 i 1 j 1 k 1 l 1 m 1 n 1 o 1 p 1\n",
+        b"m.lp",
+        b"Maximize
+obj: a + b + c + d + e + f + g + h + i + j + k + l + m + n + o + p
+Binaries
+a b c d e f g h i j k l m n o p
+End
+",
+        b"status done
+optimum 16
+solutions 1
+16 : a 1 b 1 c 1 d 1 e 1 f 1 g 1 h 1 i 1 j 1 k 1 l 1 m 1 n 1 o 1 p 1
+",
         Status::Clean,
     ),
+    // 17 variables: the whole tree is too large
+    (
+        b"m.lp",
+        b"Minimize
+obj:
+Binaries
+x1 x2 x3 x4 x5 x6 x7 x8 x9 x10 x11 x12 x13 x14 x15 x16 x17
+End
+",
+        b"status nodelimit\nnodes 199999\n",
+        Status::Clean,
+    ),
+    // a file under the name of the other format, and empty files
+    (
+        b"m.lp",
+        b"ROWS
+ N obj
+COLUMNS
+ENDATA
+",
+        b"refused 1 syntax line 1\n",
+        Status::SomeRefused,
+    ),
+    (
+        b"m.mps",
+        b"Minimize
+x
+Binaries
+x
+End
+",
+        b"refused 10 unsupported line 1\n",
+        Status::SomeRefused,
+    ),
+    (
+        b"m.lp",
+        b"",
+        b"refused 1 syntax line 1\n",
+        Status::SomeRefused,
+    ),
+    (
+        b"m.mps",
+        b"",
+        b"refused 1 syntax line 1\n",
+        Status::SomeRefused,
+    ),
+    // what LP files are refused for: 2, 1, 10, 8
+    (
+        b"m.lp",
+        b"Minimize
+obj: 1e30 x
+Subject To
+c1: x >=
+",
+        b"refused 2 wide numeral line 2\n",
+        Status::SomeRefused,
+    ),
+    (
+        b"m.lp",
+        b"Minimize
+obj: x
+Subject To
+c1: x >=
+",
+        b"refused 1 syntax line 4\n",
+        Status::SomeRefused,
+    ),
+    (
+        b"m.lp",
+        b"Minimize
+obj: x
+Subject To
+c1: x = 1 <-> x >= 1
+",
+        b"refused 10 unsupported line 4\n",
+        Status::SomeRefused,
+    ),
+    (
+        b"m.lp",
+        b"Minimize
+obj: x
+Subject To
+c1: x >= 1
+c1: x <= 2
+End
+",
+        b"refused 8 duplicate name line 5\n",
+        Status::SomeRefused,
+    ),
+    // what MPS files are refused for: 8, 9, 2, 10
+    (
+        b"m.mps",
+        b"ROWS
+ N C
+ E R
+ E R
+",
+        b"refused 8 duplicate name line 4\n",
+        Status::SomeRefused,
+    ),
+    (
+        b"m.mps",
+        b"NAME A
+ROWS
+ N COST
+COLUMNS
+ X R1 1
+",
+        b"refused 9 unknown name line 5\n",
+        Status::SomeRefused,
+    ),
+    (
+        b"m.mps",
+        b"ROWS
+ N C
+COLUMNS
+ x C 1e-31
+",
+        b"refused 2 wide numeral line 4\n",
+        Status::SomeRefused,
+    ),
+    (
+        b"m.mps",
+        b"ROWS
+ N C
+COLUMNS
+RHS
+SOS
+",
+        b"refused 10 unsupported line 5\n",
+        Status::SomeRefused,
+    ),
+    // what drafts are refused for: 3, 4, 5, 11, 6, 13
+    (
+        b"m.lp",
+        b"Maximize
+obj: x
+Bounds
+5 <= x <= 3
+Semi-continuous
+x
+End
+",
+        b"refused 3 continuous x\n",
+        Status::SomeRefused,
+    ),
+    (
+        b"m.lp",
+        b"Minimize
+x
+Bounds
+x <= 1e30
+Generals
+x
+End
+",
+        b"refused 4 open variable x\n",
+        Status::SomeRefused,
+    ),
+    (
+        b"m.lp",
+        b"Minimize
+x
+Bounds
+x <= 1000000000000001
+Generals
+x
+End
+",
+        b"refused 5 wide bound x\n",
+        Status::SomeRefused,
+    ),
+    (
+        b"m.lp",
+        b"Minimize
+x
+Bounds
+x <= -1
+Generals
+x
+End
+",
+        b"refused 11 negative upper x\n",
+        Status::SomeRefused,
+    ),
+    (
+        b"m.lp",
+        b"Minimize
+obj: x + y
+Subject To
+c1: 999999999999999999999999999999 x + y >= 1000000
+Bounds
+x <= 1000000
+Generals
+x
+Binaries
+y
+End
+",
+        b"refused 6 wide row 1\n",
+        Status::SomeRefused,
+    ),
+    (
+        b"m.lp",
+        b"Minimize
+obj: y
+Subject To
+i1: x = 1 -> y <= 0
+Bounds
+x <= 2
+Generals
+x
+Binaries
+y
+End
+",
+        b"refused 13 bad indicator 1\n",
+        Status::SomeRefused,
+    ),
+    // the first refusal in order: a variable, the objective
+    (
+        b"m.lp",
+        b"Minimize
+obj: 999999999999999999999999999999 x + y
+Subject To
+c: 999999999999999999999999999999 x <= 1
+Bounds
+x <= 1000001
+Generals
+x
+End
+",
+        b"refused 3 continuous y\n",
+        Status::SomeRefused,
+    ),
+    (
+        b"m.lp",
+        b"Minimize
+obj: 999999999999999999999999999999 x
+Subject To
+c: 999999999999999999999999999999 x <= 1
+Bounds
+x <= 1000001
+Generals
+x
+End
+",
+        b"refused 7 wide objective\n",
+        Status::SomeRefused,
+    ),
 ];
 
-fn lists() -> &'static [Printed] {
-    &LISTS
+fn files() -> &'static [Printed] {
+    &FILES
 }
 
 #[test]
-fn lists_the_optima_of_files(rt: HostRuntime) -> Result<(), Fail> {
-    let wrong = first_wrong(rt.alloc(), lists())?;
-    assert_eq!(rt; wrong, None);
-    Ok(())
-}
-
-/// Files that are refused.
-static REFUSALS: [Printed; 12] = [
-    (b"", REFUSED, Status::SomeRefused),
-    // a name of ten characters
-    (
-        b"Minimize\nobj:\nBinaries\nx123456789\nEnd\n",
-        REFUSED,
-        Status::SomeRefused,
-    ),
-    // the end is missing, and a row ends in the middle
-    (
-        b"Minimize\nobj:\nBinaries\nx\n",
-        REFUSED,
-        Status::SomeRefused,
-    ),
-    (
-        b"Maximize\n obj: 3 x + 2 y\nSubject To\n c1: x + y",
-        REFUSED,
-        Status::SomeRefused,
-    ),
-    // another relation
-    (
-        b"Maximize\n obj: 3 x + 2 y\nSubject To\n c1: x + y >= 3\nBinaries\n x y\nEnd\n",
-        REFUSED,
-        Status::SomeRefused,
-    ),
-    // a coefficient and a side of ten digits
-    (
-        b"Minimize\nobj: 1000000000 x\nBinaries\nx\nEnd\n",
-        REFUSED,
-        Status::SomeRefused,
-    ),
-    (
-        b"Minimize\nobj:\nSubject To\nc1: x <= 1000000000\nBinaries\nx\nEnd\n",
-        REFUSED,
-        Status::SomeRefused,
-    ),
-    // a row without a term, a side with a blank behind its minus, two rows of one name
-    (
-        b"Minimize\nobj:\nSubject To\nc1: <= 1\nBinaries\nx\nEnd\n",
-        REFUSED,
-        Status::SomeRefused,
-    ),
-    (
-        b"Minimize\nobj:\nSubject To\nc1: x <= - 1\nBinaries\nx\nEnd\n",
-        REFUSED,
-        Status::SomeRefused,
-    ),
-    (
-        b"Minimize\nobj:\nSubject To\nc1: x <= 1\nc1: x <= 0\nBinaries\nx\nEnd\n",
-        REFUSED,
-        Status::SomeRefused,
-    ),
-    // a variable that isn't in the line of names, and a blank at the end of a line
-    (
-        b"Minimize\nobj: y\nBinaries\nx\nEnd\n",
-        REFUSED,
-        Status::SomeRefused,
-    ),
-    (
-        b"Minimize\nobj:\nBinaries\nx \nEnd\n",
-        REFUSED,
-        Status::SomeRefused,
-    ),
-];
-
-fn refusals() -> &'static [Printed] {
-    &REFUSALS
-}
-
-#[test]
-fn refuses_other_files(rt: HostRuntime) -> Result<(), Fail> {
-    let wrong = first_wrong(rt.alloc(), refusals())?;
+fn files_print_their_lists_or_refusals(rt: HostRuntime) -> Result<(), Fail> {
+    let wrong = first_wrong(rt.alloc(), files())?;
     assert_eq!(rt; wrong, None);
     Ok(())
 }
 
 const USAGE: &[u8] = b"usage: solpool [--absgap D] [--relgap D] [--nodes N] [--demo N] [FILE]\n";
+
+const OTHER: &[u8] = b"refused 41 bad argument\n";
 
 /// The words, the calls of the shelf that fail, what is printed, the status, and the number of notes.
 type Said = (
@@ -258,7 +612,7 @@ type Said = (
 );
 
 /// Words that are no reading, and files that the shelf doesn't give.
-static SAYINGS: [Said; 9] = [
+static SAYINGS: [Said; 12] = [
     (&[], &[], USAGE, Status::Usage, 0),
     (&[b"m.lp", b"m.lp"], &[], USAGE, Status::Usage, 0),
     (&[b"-x"], &[], USAGE, Status::Usage, 0),
@@ -286,12 +640,16 @@ static SAYINGS: [Said; 9] = [
         1,
     ),
     (
-        &[b""],
+        &[b"NONE.MPS"],
         &[],
         b"refused 51 file absent\n",
         Status::SomeRefused,
         1,
     ),
+    // a name with another ending, for which the shelf isn't asked
+    (&[b""], &[1], OTHER, Status::SomeRefused, 0),
+    (&[b"m.txt"], &[1], OTHER, Status::SomeRefused, 0),
+    (&[b"m.lp.gz"], &[1], OTHER, Status::SomeRefused, 0),
 ];
 
 fn sayings() -> &'static [Said] {
@@ -300,7 +658,12 @@ fn sayings() -> &'static [Said] {
 
 fn says(alloc: Global, case: &Said) -> Result<bool, AllocError> {
     let (words, failing, wanted, status, notes) = case;
-    let mut shelf = one_file(alloc, b"Minimize\nobj:\nBinaries\nx\nEnd\n", failing)?;
+    let mut shelf = one_file(
+        alloc,
+        b"m.lp",
+        b"Minimize\nobj:\nBinaries\nx\nEnd\n",
+        failing,
+    )?;
     let mut sink = MemSink::new(alloc, 1_000, Vec::new(alloc));
     let answer = run_over(alloc, words, &mut shelf, &mut sink)?;
     Ok(answer == (*status, *notes) && sink.bytes() == *wanted)
@@ -338,7 +701,7 @@ fn sends(
     requires { 1 ≤ most }
 {
     let file = b"Maximize\n obj: 3 x + 2 y\nSubject To\n c1: x + y <= 1\nBinaries\n x y\nEnd\n";
-    let mut shelf = one_file(alloc, file, &[])?;
+    let mut shelf = one_file(alloc, b"m.lp", file, &[])?;
     let mut sink = MemSink::new(alloc, most, Vec::from_slice(alloc, &[call])?);
     let (answer, _) = run_over(alloc, &[b"m.lp"], &mut shelf, &mut sink)?;
     Ok(answer == status && sink.bytes().len() == length && SENT.starts_with(sink.bytes()))
@@ -371,37 +734,6 @@ fn a_failing_sink_has_a_front_part(rt: HostRuntime) -> Result<(), Fail> {
     Ok(())
 }
 
-/// 16 variables and three rows.
-const WIDE: &[u8] = b"Maximize
- obj: 4 x1 + 9 x2 + 6 x3 + 8 x4 + 1 x5 + 9 x6 + 4 x7 + 4 x8 + 5 x9 + 8 x10 + 4 x11 + 6 x12 + 8 x13 + 2 x14 + 5 x15 + 4 x16
-Subject To
- c1: - 2 x1 - 3 x2 + 3 x3 + 8 x4 + 4 x5 + 1 x6 - 1 x7 + 3 x8 + 8 x9 + 1 x10 - 1 x11 + 6 x12 + 8 x13 + 2 x14 + 2 x15 - 1 x16 <= 10
- c2: 2 x1 + 3 x2 - 1 x4 - 3 x5 + 6 x6 + 9 x7 + 5 x8 + 6 x9 + 1 x10 + 6 x11 + 9 x12 + 2 x14 + 8 x15 + 2 x16 <= 12
- c3: 2 x1 - 3 x2 + 2 x3 + 7 x4 + 6 x5 + 2 x6 - 4 x7 + 9 x8 + 3 x9 - 1 x10 + 4 x11 - 3 x12 + 1 x13 + 8 x14 - 4 x15 + 1 x16 <= 20
-Binaries
- x1 x2 x3 x4 x5 x6 x7 x8 x9 x10 x11 x12 x13 x14 x15 x16
-End
-";
-
-/// What is printed of it, as the search over all points says.
-const WIDE_LIST: &[u8] = b"status done
-optimum 44
-solutions 6
-44 : x2 1 x3 1 x6 1 x10 1 x13 1 x16 1
-44 : x2 1 x3 1 x4 1 x6 1 x10 1 x16 1
-44 : x1 1 x2 1 x3 1 x6 1 x10 1 x13 1
-44 : x1 1 x2 1 x3 1 x5 1 x10 1 x11 1 x13 1 x16 1
-44 : x1 1 x2 1 x3 1 x4 1 x6 1 x10 1
-44 : x1 1 x2 1 x3 1 x4 1 x5 1 x10 1 x11 1 x16 1
-";
-
-#[test]
-fn lists_the_optima_of_a_wide_file(rt: HostRuntime) -> Result<(), Fail> {
-    let right = prints(rt.alloc(), &(WIDE, WIDE_LIST, Status::Clean))?;
-    assert!(rt; right);
-    Ok(())
-}
-
 /// Puts a piece and a number behind a text.
 fn put(file: &mut Vec<u8>, piece: &[u8], number: u32) -> Result<(), AllocError> {
     let mut buffer = Buffer::new();
@@ -429,7 +761,7 @@ fn many_rows(alloc: Global) -> Result<Vec<u8>, AllocError> {
 
 /// Whether the run over this file prints this.
 fn prints_many(alloc: Global, file: &[u8], wanted: &[u8]) -> Result<bool, AllocError> {
-    let mut shelf = one_file(alloc, file, &[])?;
+    let mut shelf = one_file(alloc, b"m.lp", file, &[])?;
     let mut sink = MemSink::new(alloc, 1_000, Vec::new(alloc));
     let (answer, _) = run_over(alloc, &[b"m.lp"], &mut shelf, &mut sink)?;
     Ok(answer == Status::Clean && sink.bytes() == wanted)
@@ -490,7 +822,7 @@ fn prints_twelve(
 ) -> Result<bool, AllocError>
     requires { 1 ≤ most }
 {
-    let mut shelf = one_file(alloc, TWELVE, &[])?;
+    let mut shelf = one_file(alloc, b"m.lp", TWELVE, &[])?;
     let mut sink = MemSink::new(alloc, most, Vec::from_slice(alloc, &[failing])?);
     let (answer, _) = run_over(alloc, &[b"m.lp"], &mut shelf, &mut sink)?;
     let printed = sink.bytes();

@@ -1,25 +1,31 @@
 //! The top call: one run over a source, a shelf and a sink.
-ghost use Rattle.std.specs.Prelude.{◌≡◌, ◌≤◌, ◌<◌, ◌++◌, ◌∷◌, [], None, List, ℕ, Option, length, count_by, MatchOption};
+ghost use Rattle.std.specs.Prelude.{◌≡◌, ◌≤◌, ◌<◌, ◌++◌, ◌∷◌, [], None, Some, List, ℕ, Option};
+ghost use Rattle.std.specs.Prelude.{length, count_by, MatchOption};
 ghost use Rattle.std.specs.Prelude.{vec_len, vec_capacity};
 ghost use Rattle.sp_base.specs.Buffers.{inner_of, waiting_of};
 ghost use Rattle.sp_base.specs.Counts.{Rose, RoseBy, raised_by};
 ghost use Rattle.sp_base.specs.Shelf.{Files};
 ghost use Rattle.sp_base.specs.Status.{code_of};
 ghost use Rattle.sp_base.specs.Writing.{Sends};
+ghost use Rattle.sp_engine.specs.Formats.{format_of};
 ghost use Rattle.sp_engine.specs.Notes.{AreAnswers, is_answer, is_absence, is_overrun, is_fault, shelf_state};
 ghost use Rattle.sp_engine.specs.ReadEnds.{bytes_notes};
 ghost use Rattle.sp_engine.specs.Replies.{is_refused};
-ghost use Rattle.sp_model.specs.Rules.{IsLawful};
+ghost use Rattle.sp_model.specs.Models.{root_of};
 ghost use Rattle.sp_shell.specs.InnerReplies.{CanPrint, printed_text};
-ghost use Rattle.sp_shell.specs.Runs.{file_word, status_by, RunText, RunUnsaid, Outcome};
-ghost use Rattle.sp_shell.specs.Wording.{refusal_wording, spelling};
+ghost use Rattle.sp_shell.specs.Replies.{refusal_text};
+ghost use Rattle.sp_shell.specs.Runs.{asked, file_word, status_by, RunText, RunUnsaid, Outcome};
+ghost use Rattle.sp_shell.specs.Wording.{spelling};
 
+use crate::printing::print_refusal;
 use crate::replying::print_reply;
-use crate::wordings::{Wording, bytes_of, wording_of};
+use crate::wordings::{Wording, bytes_of};
 use sp_base::{Buffered, Shelf, Sink, SinkEnd, Source, Status, Text, WordList, write_all};
-use sp_engine::{Entry, FetchNote, Journal, Listing, ReadEnd, Refusal, Reply, list, read};
-use sp_model::{Items, Model, feasible_is_within};
-use sp_small_lp::NamedModel;
+use sp_engine::{
+    Entry, FetchNote, FileFormat, Journal, Listing, NamedModel, ReadEnd, Refusal, Reply, format_of,
+    list, read,
+};
+use sp_model::{Items, feasible_is_within};
 use std::alloc::Global;
 
 /// How a run ended, and what it noted.
@@ -78,35 +84,33 @@ fn push_note(entries: &mut Vec<Entry>, entry: Entry)
 /// Prints a reply and sends all of it.
 fn send_reply<K: Sink>(
     buffer: &mut Buffered<K>,
-    names: &[Text],
-    model: &Model,
+    named: &NamedModel,
     reply: &Reply,
     notes: &[Entry],
 ) -> Result<(), SinkEnd>
     requires waits { waiting_of buffer.old ≡ [] }
-    requires printable { CanPrint names.now model.now notes.now reply.now }
+    requires printable { CanPrint named.now notes.now reply.now }
     ensures { Sends K.Sink result (inner_of buffer.old) (inner_of buffer.new)
-        (printed_text names.now model.now notes.now reply.now) }
+        (printed_text named.now notes.now reply.now) }
 {
-    let written = print_reply(buffer, names, model, reply, notes);
+    let written = print_reply(buffer, named, reply, notes);
     buffer.finish(written)
 }
 
 /// Prints the reply of the list, whose notes stand behind the read's, and ends with the status that the reply asks for.
 fn end_with_list<K: Sink>(
     buffer: &mut Buffered<K>,
-    names: &[Text],
-    model: &Model,
+    named: &NamedModel,
     reply: &Reply,
     entries: Vec<Entry>,
 ) -> Ending
     requires waits { waiting_of buffer.old ≡ [] }
-    requires printable { CanPrint names.now model.now entries.items reply.now }
+    requires printable { CanPrint named.now entries.items reply.now }
     ensures entries { result.journal.entries ≡ entries.items }
     ensures answered { Answers K.Sink (status_by (is_refused reply.now)) result.status (inner_of buffer.old)
-        (inner_of buffer.new) (printed_text names.now model.now entries.items reply.now) }
+        (inner_of buffer.new) (printed_text named.now entries.items reply.now) }
 {
-    let sent = send_reply(buffer, names, model, reply, entries.as_slice());
+    let sent = send_reply(buffer, named, reply, entries.as_slice());
     end_with(status_of(sent, status_for(reply)), entries)
 }
 
@@ -129,8 +133,7 @@ fn list_model<K: Sink>(
     mut entries: Vec<Entry>,
     buffer: &mut Buffered<K>,
 ) -> Ending
-    requires lawful { IsLawful named.parts }
-    requires named { length named.names ≡ length named.parts.lower }
+    requires named { length named.names ≡ length (root_of named.model) }
     requires empty { entries.items ≡ [] }
     requires waits { waiting_of buffer.old ≡ [] }
     requires room { vec_len entries < vec_capacity entries }
@@ -140,19 +143,16 @@ fn list_model<K: Sink>(
         → EndsFile K.Sink files name result (inner_of buffer.old) (inner_of buffer.new) }
 {
     feasible_is_within();
+    // that the model is lawful is known of its parts
+    let _parts = named.model.parts();
     push_note(&mut entries, Entry::Fetched(FetchNote::Bytes(bytes)));
-    let Ok(listing) = list(alloc, named) else {
+    let Ok(listing) = list(alloc, &named) else {
         return end_with(Status::NoMemory, entries);
     };
-    let Listing {
-        names,
-        model,
-        mut notes,
-        reply,
-    } = listing;
+    let Listing { mut notes, reply } = listing;
     match entries.append(&mut notes) {
         Err(_) => end_with(Status::NoMemory, entries),
-        Ok(()) => end_with_list(buffer, names.as_slice(), &model, &reply, entries),
+        Ok(()) => end_with_list(buffer, &named, &reply, entries),
     }
 }
 
@@ -164,8 +164,7 @@ fn list_buffered<K: Sink>(
     mut entries: Vec<Entry>,
     sink: &mut K,
 ) -> Ending
-    requires lawful { IsLawful named.parts }
-    requires named { length named.names ≡ length named.parts.lower }
+    requires named { length named.names ≡ length (root_of named.model) }
     requires empty { entries.items ≡ [] }
     requires room { vec_len entries < vec_capacity entries }
     ensures notes { OwnNotes (Entry.Fetched (FetchNote.Bytes bytes)) result.journal.entries }
@@ -207,10 +206,11 @@ fn refuse<K: Sink>(sink: &mut K, mut entries: Vec<Entry>, answer: FetchNote, why
     requires room { vec_len entries < vec_capacity entries }
     ensures entries { result.journal.entries ≡ Entry.Fetched answer ∷ [] }
     ensures answered { Answers K.Sink Status.SomeRefused result.status sink.old sink.new
-        (spelling (refusal_wording why)) }
+        (refusal_text why) }
 {
     push_note(&mut entries, Entry::Fetched(answer));
-    end_with_line(sink, entries, wording_of(why), Status::SomeRefused)
+    let sent = print_refusal(sink, &why);
+    end_with(status_of(sent, Status::SomeRefused), entries)
 }
 
 /// Ends where memory was wanting, with a note of the bytes where they were fetched.
@@ -233,16 +233,18 @@ fn end_without_memory(mut entries: Vec<Entry>, bytes: Option<Text>) -> Ending
 fn read_and_list<F: Shelf, K: Sink>(
     alloc: Global,
     name: &Text,
+    format: FileFormat,
     entries: Vec<Entry>,
     shelf: &mut F,
     sink: &mut K,
 ) -> Ending
+    requires format { format_of name.now ≡ Some format }
     requires empty { entries.items ≡ [] }
     requires room { vec_len entries < vec_capacity entries }
     ensures ends { EndsFile K.Sink (F.files shelf.old) name.now result sink.old sink.new }
     ensures noted { AreAnswers result.journal.entries (shelf_state F.Shelf shelf.old) (shelf_state F.Shelf shelf.new) }
 {
-    match read(alloc, name, 0, shelf) {
+    match read(alloc, name, format, 0, shelf) {
         ReadEnd::Accepted { bytes, named } => list_buffered(alloc, bytes, named, entries, sink),
         ReadEnd::Refused { answer, why } => refuse(sink, entries, answer, why),
         ReadEnd::NoMemory { bytes } => end_without_memory(entries, bytes),
@@ -279,8 +281,8 @@ pub fn run<S: Source, F: Shelf, K: Sink>(
     sink: &mut K,
 ) -> Ending
     // what was printed, noted and answered
-    ensures outcome { let file = file_word words.now in
-        Outcome K.takes_memory (RunText (F.files shelf.old) file) (RunUnsaid (F.files shelf.old) file)
+    ensures outcome { let what = asked words.now in
+        Outcome K.takes_memory (RunText (F.files shelf.old) what) (RunUnsaid (F.files shelf.old) what)
         result.journal.entries result.status (K.held sink.old) (K.held sink.new) }
 
     // the cause of a sink's fault
@@ -306,9 +308,17 @@ pub fn run<S: Source, F: Shelf, K: Sink>(
     let _ = source;
     match named_file(words.as_slice()) {
         None => end_with_line(sink, Vec::new(alloc), Wording::Usage, Status::Usage),
-        Some(name) => match Vec::with_capacity(alloc, 1) {
-            Err(_) => end_with(Status::NoMemory, Vec::new(alloc)),
-            Ok(entries) => read_and_list(alloc, name, entries, shelf, sink),
+        Some(name) => match format_of(name.as_slice()) {
+            None => end_with_line(
+                sink,
+                Vec::new(alloc),
+                Wording::BadArgument,
+                Status::SomeRefused,
+            ),
+            Some(format) => match Vec::with_capacity(alloc, 1) {
+                Err(_) => end_with(Status::NoMemory, Vec::new(alloc)),
+                Ok(entries) => read_and_list(alloc, name, format, entries, shelf, sink),
+            },
         },
     }
 }

@@ -5,14 +5,14 @@ use Rattle.sp_engine.proofs.reading.read.Goals as goal
 
 pub returns-in-Bytes-clause-says : goal.returns-in-Bytes-clause-says
 returns-in-Bytes-clause-says g c =
-    λ view f n. bytes_say _ _ _ _ _ c.read_bytes.ensures c.in-Bytes.ensures.answer view f (ap limit_after n ∙ sym c.limit_after.ensures)
+    λ view f n. bytes_say _ _ _ _ _ (c.read_bytes.ensures _ c.requires) c.in-Bytes.ensures.answer view f (ap limit_after n ∙ sym c.limit_after.ensures)
 
 pub returns-in-Bytes-clause-runnable : goal.returns-in-Bytes-clause-runnable
-returns-in-Bytes-clause-runnable g c = bytes_run _ _ c.read_bytes.ensures
+returns-in-Bytes-clause-runnable g c = bytes_run _ _ _ (c.read_bytes.ensures _ c.requires)
 
 pub returns-in-Bytes-clause-noted : goal.returns-in-Bytes-clause-noted
 returns-in-Bytes-clause-noted g c =
-    bytes_answered _ _ _ _ c.read_bytes.ensures c.read.ensures.unchanged c.in-Bytes.ensures.counted c.read.ensures.absences_later
+    bytes_answered _ _ _ _ _ (c.read_bytes.ensures _ c.requires) c.read.ensures.unchanged c.in-Bytes.ensures.counted c.read.ensures.absences_later
     c.read.ensures.overruns_later c.read.ensures.faults_later
 
 pub returns-in-Absent-clause-says : goal.returns-in-Absent-clause-says

@@ -6,4 +6,4 @@ use Rattle.sp_shell.proofs.replying.print_serials.Given as goal
 
 abbrev pub invariant-loop-serial : goal.invariant-loop-serial
 invariant-loop-serial g l =
-    WritesSoFar g.K.Sink l.initial.sink l.sink (flat_map (serial_line l.names l.model l.notes) l.serials) (flat_map (serial_line l.names l.model l.notes) (drop l.serial-index l.serials))
+    WritesSoFar g.K.Sink l.initial.sink l.sink (flat_map (serial_line l.named l.notes) l.serials) (flat_map (serial_line l.named l.notes) (drop l.serial-index l.serials))

@@ -1,18 +1,13 @@
-use Rattle.std.proofs.Common.{◌∙◌, sym, subst}
+use Rattle.std.proofs.Common.{◌∙◌}
 use Rattle.sp_engine.specs.declared.journals.Entry.TheVariants as entry
 use Rattle.sp_engine.specs.declared.journals.FetchNote.TheVariants as note
-use Rattle.sp_engine.specs.Replies.{is_refused}
-use Rattle.sp_shell.specs.InnerEndings.{Answers}
-use Rattle.sp_shell.specs.InnerReplies.{CanPrint, printed_text}
-use Rattle.sp_shell.specs.Runs.{status_by}
 use Rattle.sp_shell.proofs.RunLemmas.{first_noted, listing_notes, can_print, list_ended}
 use Rattle.sp_shell.proofs.runs.list_model.Goals as goal
 
 pub end_with_list-requires-clause-printable : goal.end_with_list-requires-clause-printable
 end_with_list-requires-clause-printable g c =
-    subst (λ ns. CanPrint ns c.in-Ok.listing.model c.append.new.self.items c.in-Ok.listing.reply) (sym c.as_slice.ensures)
-    (can_print (λ x f. c.feasible_is_within.ensures _ x c.requires.lawful f) (note.Bytes c.args.bytes) c.append.new.self.items c.in-Ok.ensures
-    (first_noted c.in-Ok.listing.notes.items _ c.in-Ok-append.ensures.items c.push_note.ensures c.requires.empty))
+    can_print (λ x f. c.feasible_is_within.ensures _ x c.parts-parts.ensures.lawful f) c.requires.named (note.Bytes c.args.bytes) c.append.new.self.items c.in-Ok.ensures
+    (first_noted c.in-Ok.listing.notes.items _ c.in-Ok-append.ensures.items c.push_note.ensures c.requires.empty)
 
 pub returns-clause-notes : goal.returns-clause-notes
 returns-clause-notes g c =
@@ -23,6 +18,4 @@ pub returns-clause-ends : goal.returns-clause-ends
 returns-clause-ends g c =
     list_ended c.in-Ok.ensures
     (first_noted c.in-Ok.listing.notes.items (entry.Fetched (note.Bytes c.args.bytes)) c.in-Ok-append.ensures.items c.push_note.ensures c.requires.empty)
-    c.end_with_list.ensures.entries
-    (subst (λ ns. Answers g.K.Sink (status_by (is_refused c.in-Ok.listing.reply)) c.end_with_list.result.status c.args.buffer.now.inner c.end_with_list.new.buffer.inner (printed_text ns c.in-Ok.listing.model c.append.new.self.items c.in-Ok.listing.reply))
-    c.as_slice.ensures c.end_with_list.ensures.answered)
+    c.end_with_list.ensures.entries c.end_with_list.ensures.answered

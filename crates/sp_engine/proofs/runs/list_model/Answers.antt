@@ -1,9 +1,0 @@
-use Rattle.std.proofs.Common.{◌∙◌, ap, refl}
-use Rattle.sp_engine.specs.Listing.{serials_from}
-use Rattle.sp_engine.proofs.ListLemmas.{is_listing}
-use Rattle.sp_engine.proofs.runs.list_model.Goals as goal
-
-pub returns : goal.returns
-returns c =
-    is_listing c.args.names c.args.model c.in_ok-best.field-0 _ c.in_ok-serials.serials.items c.in_ok-notes.notes.items c.in_ok-best.ensures c.requires
-    refl refl c.reply_to-reply.ensures (c.in_ok-serials.ensures ∙ ap (serials_from 1) (c.len.ensures ∙ c.in_ok-best.field-0.listed.ok.0)) c.in_ok-notes.ensures c.in_ok-push.ensures.items

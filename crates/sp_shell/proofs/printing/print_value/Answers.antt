@@ -1,7 +1,0 @@
-use Rattle.std.proofs.Common.{rules}
-use Rattle.sp_shell.specs.Replies.{named_value}
-use Rattle.sp_shell.proofs.printing.print_value.Goals as goal
-
-pub returns-then-value-eq0 : goal.returns-then-value-eq0
-unfolding named_value
-returns-then-value-eq0 g c = record { written = c.texts_join.ensures.nothing _ _ _ (search rules) }

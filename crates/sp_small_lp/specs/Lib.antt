@@ -1,9 +1,0 @@
-pub mod Added
-pub mod Combined
-pub mod Files
-pub mod Kinds
-pub mod Lines
-pub mod Machine
-pub mod Names
-pub mod Reads
-pub mod Words

@@ -18,7 +18,6 @@ import tempfile
 TOP = pathlib.Path(__file__).resolve().parent.parent
 VARIABLES, ROWS, TERMS, TOKENS, WORDS = 2_000, 10_000, 200_000, 1_000_000, 1_000
 USAGE = "usage: solpool [--absgap D] [--relgap D] [--nodes N] [--demo N] [FILE]\n"
-SYNTAX = "refused 1 syntax line 1\n"
 STOPPED = "status nodelimit\nnodes 199999\n"
 
 
@@ -31,7 +30,7 @@ def names(count):
 
 
 def model(variables, rows, objective="", last_label=None):
-    """A file of the small grammar over x1, x2, .. with these rows, which are named c1, c2, .. but perhaps the last one."""
+    """An LP file with binaries x1, x2, .. with these rows, which are named c1, c2, .. but perhaps the last one."""
     lines = ["Maximize", f"obj: {objective}".rstrip()]
     if rows:
         labels = [f"c{k}" for k in range(1, len(rows) + 1)]
@@ -57,15 +56,17 @@ def cases():
     one = "status done\noptimum 1\nsolutions 1\n1 : x1 1\n"
     rows = ["x1 <= 1"] * ROWS
     yield f"{VARIABLES} variables", model(VARIABLES, []), STOPPED, 0
-    yield f"{VARIABLES + 1} variables", model(VARIABLES + 1, []), SYNTAX, 1
+    yield f"{VARIABLES + 1} variables", model(VARIABLES + 1, []), "refused 12 too many variables\n", 1
     yield f"the {VARIABLES}th variable in the objective", model(VARIABLES, [], f"x{VARIABLES}"), STOPPED, 0
-    yield "a variable behind them that isn't declared", model(VARIABLES - 1, [], f"x{VARIABLES}"), SYNTAX, 1
+    yield "a variable behind them that isn't whole", model(VARIABLES - 1, [], f"x{VARIABLES}"), \
+        f"refused 3 continuous x{VARIABLES}\n", 1
     yield f"{ROWS} rows", model(1, rows, "x1"), one, 0
-    yield f"{ROWS + 1} rows", model(1, rows + ["x1 <= 1"], "x1"), SYNTAX, 1
-    yield f"the {ROWS - 1}th row's name twice", model(1, rows, "x1", f"c{ROWS - 1}"), SYNTAX, 1
+    yield f"{ROWS + 1} rows", model(1, rows + ["x1 <= 1"], "x1"), "refused 12 too many rows\n", 1
+    yield f"the {ROWS - 1}th row's name twice", model(1, rows, "x1", f"c{ROWS - 1}"), \
+        f"refused 8 duplicate name line {ROWS + 3}\n", 1
     wide = [f"{sum_of(16, 1_250)} <= 999999999"] * (TERMS // 20_000)
     yield f"{TERMS} terms", model(16, wide), listing(16), 0
-    yield f"{TERMS + 1} terms", model(16, wide, "x1"), SYNTAX, 1
+    yield f"{TERMS + 1} terms", model(16, wide, "x1"), "refused 12 too many terms\n", 1
     yield "65,536 found points, all listed", model(16, []), listing(16), 0
     yield "65,536 found points, one listed", model(16, [], sum_of(16)), \
         "status done\noptimum 16\nsolutions 1\n16 :" + "".join(f" x{k} 1" for k in range(1, 17)) + "\n", 0

@@ -64,6 +64,8 @@ printf 'Minimize\n obj:\nBinaries\n x y z\nEnd\n' > free.lp
 truncate -s "$limit" full.lp
 truncate -s $((limit + 1)) over.lp
 mkdir folder.lp
+ln -s /dev/null empty.lp
+ln -s /dev/zero endless.LP
 wide="$(printf ' x%d' {1..16})"
 printf 'Minimize\n obj:\nBinaries\n%s\nEnd\n' "$wide" > sixteen.lp
 listing="$(printf '%s\n' 'status done' 'optimum 0' 'solutions 8' '0 :' '0 : z 1' '0 : y 1' '0 : y 1 z 1' \
@@ -74,15 +76,16 @@ judge 'a path with a folder in it' 0 "$listing" "$folder/free.lp"
 judge 'a file that is not there' 1 'refused 51 file absent' none.lp
 judge 'a folder as FILE' 1 'refused 52 file fault' folder.lp
 judge 'a name that is not UTF-8' 1 'refused 51 file absent' $'caf\xe9.lp'
-judge 'an empty file' 1 'refused 1 syntax line 1' /dev/null
+judge 'an empty file' 1 'refused 1 syntax line 1' empty.lp
 judge 'a file of 2^26 bytes' 1 'refused 1 syntax line 1' full.lp
 judge 'a file of 2^26 + 1 bytes' 1 'refused 53 file too long' over.lp
-judge 'a stream without an end' 1 'refused 53 file too long' /dev/zero
+judge 'a stream without an end' 1 'refused 53 file too long' endless.LP
+judge 'a name with another ending' 1 'refused 41 bad argument' /dev/zero
 below 'a file of 2^26 + 1 bytes takes less than 8 MiB' 8192 over.lp
-below 'a stream without an end takes less than 3 * 2^26 bytes' 196608 /dev/zero
+below 'a stream without an end takes less than 3 * 2^26 bytes' 196608 endless.LP
 judge 'no words' 2 "$usage"
 judge 'two words' 2 "$usage" free.lp free.lp
-judge 'a word of 100,000 bytes' 1 'refused 52 file fault' "$(head -c 100000 /dev/zero | tr '\0' x)"
+judge 'a word of 100,000 bytes' 1 'refused 52 file fault' "$(head -c 100000 /dev/zero | tr '\0' x).lp"
 if [[ $(id -u) == 0 ]]; then
     echo 'SKIP a file without permission: the user may read all files'
 else

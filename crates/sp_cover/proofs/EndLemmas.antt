@@ -362,6 +362,12 @@ count-less test (n ∷ nodes) (suc i) h e = less-step test n nodes (test n) refl
 any-open : (kind : Kind) → kind ≡ Open → is_any_point_of kind ≡ false
 any-open kind is = rw is refl
 
+pub found-few : (m : ModelParts) (s : SearchOf) → IsSearch m s → length s.found ≤ length s.tree.nodes
+found-few m s c =
+    let few = count-few is_any_point s.tree.nodes in
+    let same = c.matched in
+    omega (arith, few, same)
+
 pub found-fewer : (m : ModelParts) (s : SearchOf) (i : ℕ) → IsSearch m s → IsOpenAt s.tree.nodes i → length s.found < length s.tree.nodes
 found-fewer m s i c h =
     let less = count-less is_any_point s.tree.nodes i h.known (any-open (node_at s.tree.nodes i).kind h.open_is) in

@@ -1,6 +1,6 @@
 //! Laws of the cover: each is the contract of a function that does nothing of its own.
 
-ghost use Rattle.std.specs.Prelude.{◌≡◌, ◌+◌, ◌<◌, ℕ, ℤ, Bool, List, length, true};
+ghost use Rattle.std.specs.Prelude.{◌≡◌, ◌+◌, ◌<◌, ◌≤◌, ℕ, ℤ, Bool, List, length, true};
 ghost use Rattle.sp_list.specs.declared.found.Found.{Found as FoundOf};
 ghost use Rattle.sp_model.specs.declared.parts.ModelParts.{ModelParts};
 ghost use Rattle.sp_model.specs.Models.{IsOptimum, root_of};
@@ -87,8 +87,9 @@ pub fn covered_searches_find_all()
     points_are_counted();
 }
 
-/// A law: with an open leaf there are fewer found points than nodes.
-pub fn found_points_are_fewer()
-    ensures { (m : ModelParts) (s : SearchOf) (i : ℕ) → IsSearch m s → IsOpenAt s.tree.nodes i
+/// A law: there are no more found points than nodes, and fewer where a leaf is open.
+pub fn found_points_are_few()
+    ensures few { (m : ModelParts) (s : SearchOf) → IsSearch m s → length s.found ≤ length s.tree.nodes }
+    ensures fewer { (m : ModelParts) (s : SearchOf) (i : ℕ) → IsSearch m s → IsOpenAt s.tree.nodes i
         → length s.found < length s.tree.nodes }
 {}

@@ -7,6 +7,6 @@ mod searches;
 
 pub use aims::{Aim, is_past};
 pub use cover_laws::{
-    covered_searches_find_all, found_points_are_fewer, screens_last, searches_last,
+    covered_searches_find_all, found_points_are_few, screens_last, searches_last,
 };
 pub use searches::Search;

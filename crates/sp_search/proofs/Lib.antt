@@ -1,0 +1,5 @@
+pub mod BoxLemmas
+pub mod ObjectiveLemmas
+pub mod StepLemmas
+pub mod MeasureLemmas
+pub mod RunLemmas

@@ -1,0 +1,18 @@
+use Rattle.std.proofs.Common.{◌≡◌, ℕ, false}
+use Rattle.sp_filter.specs.Held.{FilterList}
+use Rattle.sp_cover.specs.Cover.{IsOpenAt}
+use Rattle.sp_search.specs.Runs.{IsRun}
+use Rattle.sp_search.specs.States.{IsCovered, IsState}
+use Rattle.sp_search.proofs.MeasureLemmas.{open_room}
+use Rattle.sp_search.proofs.optima.optimize.Given as goal
+
+abbrev pub invariant-loop-node : goal.invariant-loop-node
+invariant-loop-node l = record {
+  state : IsState l.state;
+  run : IsRun l.fn.state l.state l.node_limit;
+  covered : (fs : FilterList) → IsCovered fs l.fn.state → IsCovered fs l.state;
+  phase : (i : ℕ) → IsOpenAt l.state.search.tree.nodes i → l.state.search.proved ≡ false;
+}
+
+abbrev pub decreases-loop-node : goal.decreases-loop-node
+decreases-loop-node l = open_room l.state.search.tree

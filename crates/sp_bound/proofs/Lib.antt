@@ -1,12 +1,17 @@
 pub mod ChangeLemmas
+pub mod DraftLemmas
 pub mod FactorLemmas
 pub mod HeldLemmas
 pub mod IdleLemmas
+pub mod KeptLemmas
+pub mod RaiseLemmas
 pub mod ReadyLemmas
 pub mod ReduceLemmas
 pub mod SafeLemmas
 pub mod SoundLemmas
 pub mod StatedLemmas
 pub mod StatingLemmas
+pub mod TermLemmas
+pub mod ThresholdLemmas
 pub mod TurnLemmas
 pub mod VariableLemmas

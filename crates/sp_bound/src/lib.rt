@@ -2,6 +2,8 @@
 #![tactic(auto)]
 
 mod asking;
+#[cfg(test)]
+mod bound_tests;
 mod bounds;
 mod conditions;
 mod keeping;

@@ -1,9 +1,9 @@
 -- Costs beside the variables: terms one after another change them as each variable's own coefficient does.
-use Rattle.std.proofs.Common.{◌≡◌, ◌≢◌, ℕ, zero, suc, ◌+◌, ◌<◌, ◌≤◌, Bool, true, false, cond, nat_eq, List, [], ◌∷◌, length, get_or, set, drop, Option, None, Some, ℤ, pos, ◌+ℤ◌, ◌-ℤ◌, ◌*ℤ◌, All, AllPairs, refl, sym, ap, subst, ◌∙◌, arith, length-set, get_or-set_same, get_or-set_other}
+use Rattle.std.proofs.Common.{◌≡◌, ◌≢◌, ℕ, suc, ◌+◌, ◌<◌, Bool, true, false, cond, nat_eq, List, [], ◌∷◌, length, get_or, set, Option, None, Some, ℤ, pos, ◌+ℤ◌, ◌-ℤ◌, ◌*ℤ◌, All, AllPairs, refl, sym, ap, subst, ◌∙◌, arith, length-set, get_or-set_same, get_or-set_other}
 use Rattle.std.proofs.Math.IntN.{*ℤ-zero}
 use Rattle.std.proofs.lemmas.Bool.Decides.{nat_tests}
 use Rattle.std.proofs.lemmas.Int.{ints}
-use Rattle.sp_model.specs.Boxes.{Bounds, range_at}
+use Rattle.sp_model.specs.Boxes.{Bounds}
 use Rattle.sp_model.specs.Sums.{Term}
 use Rattle.sp_bound.specs.Bounds.{coefficient_in, fits}
 use Rattle.sp_bound.specs.Inner.{AreHeld, Changes, IsHeld, cost_at, if_fits, least_value, minus, plus, plus_values}

@@ -1,5 +1,5 @@
 -- Lists that come into the draft one after another: each gets a row, is asked, or lacks its side.
-use Rattle.std.proofs.Common.{◌≡◌, ◌≢◌, ◌⊎◌, ℕ, zero, suc, ◌+◌, ◌-◌, ◌*◌, ◌^◌, ◌<◌, ◌≤◌, Bool, true, false, cond, List, [], ◌∷◌, ◌++◌, length, map, drop, get_or, All, Contains, IsSome, Option, None, Some, unwrap_or, ℤ, pos, inl, inr, refl, sym, ap, subst, ◌∙◌, arith, append_assoc, length-append}
+use Rattle.std.proofs.Common.{◌≡◌, ◌⊎◌, ℕ, zero, suc, ◌+◌, ◌-◌, ◌*◌, ◌^◌, ◌<◌, ◌≤◌, Bool, true, false, cond, List, [], ◌∷◌, ◌++◌, length, drop, get_or, All, Contains, IsSome, Option, None, unwrap_or, ℤ, pos, inl, inr, refl, sym, ap, subst, ◌∙◌, arith, append_assoc, length-append}
 use Rattle.std.specs.Ordering.{int_eq}
 use Rattle.std.specs.Int.RustNames.{unsigned_abs}
 use Rattle.std.proofs.lemmas.Bool.{cases_lt}
@@ -13,11 +13,11 @@ use Rattle.sp_sums.specs.Rows.{IsRowFit, bare_row, row_at}
 use Rattle.sp_dual.specs.Lists.{MultiplierList}
 use Rattle.sp_bound.specs.declared.keeping.Draft.{Draft}
 use Rattle.sp_bound.specs.declared.keeping.Owner.{Owner}
-use Rattle.sp_bound.specs.Bounds.{Weight, reduced_cost, side_product, total}
+use Rattle.sp_bound.specs.Bounds.{Weight, reduced_cost}
 use Rattle.sp_bound.specs.Closing.{IsIdle, list_at}
-use Rattle.sp_bound.specs.Inner.{AreReduced, IsSafe, cost_at, is_reduced, reduced, side_total, sizes, spread}
+use Rattle.sp_bound.specs.Inner.{AreReduced, IsSafe, cost_at, is_reduced, reduced, spread}
 use Rattle.sp_bound.specs.Keeping.{AddsCost, AddsList, AsksOrKeeps, asks, keeps, HasSides, IsDraftOf, LacksSide, is_asked, is_idle, is_kept, TellsTerms, asking, cost_value, keeping}
-use Rattle.sp_bound.specs.KeptBounds.{AreCovered, AreOwned, HasRow, IsOwned, cost_terms, no_owner, owner_at}
+use Rattle.sp_bound.specs.KeptBounds.{AreOwned, HasRow, IsOwned, cost_terms, no_owner, owner_at}
 use Rattle.sp_bound.proofs.HeldLemmas.{held, reduced-held}
 use Rattle.sp_bound.proofs.TermLemmas.{bare, spread-same, terms-fit, terms-same}
 use Rattle.sp_bound.proofs.TurnLemmas.{next_range}
@@ -184,16 +184,16 @@ kept_owned m ls os rows o row p h = record {
   paired = omega (arith, length-append os (o ∷ []), length-append rows (row ∷ []), p.paired);
   each = λ k l. (elim (cases_lt k (length rows)) [
     | inl g ↦ (
-      let first : owner_at (os ++ o ∷ []) k ≡ owner_at os k = at_push_old os o no_owner k (omega (arith, g, p.paired)) in
-      let second : row_at (rows ++ row ∷ []) k ≡ row_at rows k = at_push_old rows row bare_row k g in
-      subst (λ (x : Owner). IsOwned m ls x (row_at (rows ++ row ∷ []) k)) (sym first) (subst (IsOwned m ls (owner_at os k)) (sym second) (p.each k g))
-    )
+        let first : owner_at (os ++ o ∷ []) k ≡ owner_at os k = at_push_old os o no_owner k (omega (arith, g, p.paired)) in
+        let second : row_at (rows ++ row ∷ []) k ≡ row_at rows k = at_push_old rows row bare_row k g in
+        subst (λ (x : Owner). IsOwned m ls x (row_at (rows ++ row ∷ []) k)) (sym first) (subst (IsOwned m ls (owner_at os k)) (sym second) (p.each k g))
+        )
     | inr g ↦ (
-      let here : length rows ≡ k = omega (arith, l, g, length-append rows (row ∷ [])) in
-      let first : owner_at (os ++ o ∷ []) k ≡ o = ap (owner_at (os ++ o ∷ [])) (sym here ∙ sym p.paired) ∙ at_push_new os o no_owner in
-      let second : row_at (rows ++ row ∷ []) k ≡ row = ap (row_at (rows ++ row ∷ [])) (sym here) ∙ at_push_new rows row bare_row in
-      subst (λ (x : Owner). IsOwned m ls x (row_at (rows ++ row ∷ []) k)) (sym first) (subst (IsOwned m ls o) (sym second) h)
-    )
+        let here : length rows ≡ k = omega (arith, l, g, length-append rows (row ∷ [])) in
+        let first : owner_at (os ++ o ∷ []) k ≡ o = ap (owner_at (os ++ o ∷ [])) (sym here ∙ sym p.paired) ∙ at_push_new os o no_owner in
+        let second : row_at (rows ++ row ∷ []) k ≡ row = ap (row_at (rows ++ row ∷ [])) (sym here) ∙ at_push_new rows row bare_row in
+        subst (λ (x : Owner). IsOwned m ls x (row_at (rows ++ row ∷ []) k)) (sym first) (subst (IsOwned m ls o) (sym second) h)
+        )
   ]);
 }
 

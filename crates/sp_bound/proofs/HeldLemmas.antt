@@ -10,7 +10,7 @@ use Rattle.sp_model.specs.Rounds.{ceiling_of}
 use Rattle.sp_sums.specs.Extremes.{term_least}
 use Rattle.sp_dual.specs.Lists.{MultiplierList}
 use Rattle.sp_bound.specs.Bounds.{Weight, addends, all_variable_numbers, bound_number, bound_of, fits, least_values, left_of, named_numbers, reduced_cost, scaled_cost, share_numbers, share_of, side_product, sums_from, total, variable_numbers}
-use Rattle.sp_bound.specs.Inner.{ended, if_fits, is_reduced, least_value, minus, minus_shares, plus, plus_sides, plus_values, reduced}
+use Rattle.sp_bound.specs.Inner.{ended, is_reduced, least_value, minus, minus_shares, plus, plus_sides, plus_values, reduced}
 
 -- the number, where all that was looked at fits
 abbrev pub held : Bool → ℤ → Option ℤ

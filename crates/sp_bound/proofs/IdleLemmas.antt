@@ -1,19 +1,17 @@
 -- A list of one row that lacks its side closes nothing that the empty list doesn't.
-use Rattle.std.proofs.Common.{◌≡◌, ◌↔◌, ℕ, suc, ◌+◌, ◌<◌, ◌≤◌, Bool, true, false, cond, inl, inr, ◌⊎◌, List, [], ◌∷◌, ◌++◌, length, map, All, AllPairs, Option, None, Some, unwrap_or, ℤ, pos, ◌+ℤ◌, ◌-ℤ◌, ◌*ℤ◌, ◌≤ℤ◌, ◌<ℤ◌, int_le, int_lt, refl, sym, ap, subst, ◌∙◌, arith}
+use Rattle.std.proofs.Common.{◌≡◌, ℕ, suc, ◌<◌, Bool, true, false, cond, List, [], ◌∷◌, length, Option, None, Some, unwrap_or, ℤ, pos, ◌+ℤ◌, ◌-ℤ◌, ◌*ℤ◌, ◌≤ℤ◌, ◌<ℤ◌, int_le, int_lt, refl, sym, ap, ◌∙◌, arith}
 use Rattle.std.proofs.Math.IntN.{*ℤ-zero, zero-*ℤ}
 use Rattle.std.proofs.lemmas.Int.{ints}
-use Rattle.sp_model.specs.declared.parts.Row.{Row}
 use Rattle.sp_model.specs.declared.parts.ModelParts.{ModelParts}
 use Rattle.sp_model.specs.Boxes.{Bounds, IsBetween, range_at}
 use Rattle.sp_model.specs.Models.{root_of}
 use Rattle.sp_model.specs.Rounds.{ceiling_of}
 use Rattle.sp_model.specs.Rules.{IsLawful}
-use Rattle.sp_model.specs.Sums.{Term}
 use Rattle.sp_sums.specs.Extremes.{least_over, most_over, term_least, term_most}
 use Rattle.sp_sums.specs.Ranges.{IsInside}
 use Rattle.sp_sums.specs.Rows.{row_at}
 use Rattle.sp_dual.specs.Lists.{MultiplierList, zero_list}
-use Rattle.sp_bound.specs.Bounds.{Weight, addends, bound_number, bound_of, coefficient_in, least_values, reduced_cost, share_of, side_of, side_product, total}
+use Rattle.sp_bound.specs.Bounds.{Weight, addends, bound_number, bound_of, coefficient_in, least_values, reduced_cost, side_product, total}
 use Rattle.sp_bound.specs.Closing.{IsIdle, closes, is_above, named_side}
 use Rattle.sp_bound.specs.Inner.{IsRising}
 use Rattle.sp_bound.proofs.FactorLemmas.{mul-add, mul-assoc, mul-le, mul-turns, one_times, sub-mul}

@@ -1,5 +1,5 @@
 -- Kept rows tell what bounds tell, and no list closes a box where none that is looked at does.
-use Rattle.std.proofs.Common.{◌≡◌, ◌⊎◌, ℕ, zero, suc, ◌+◌, ◌^◌, ◌<◌, ◌≤◌, Bool, true, false, not, ◌||◌, List, [], ◌∷◌, length, map, get_or, set, All, Contains, MatchOption, Vec, Global, Option, None, Some, ℤ, pos, ◌+ℤ◌, ◌≤ℤ◌, inl, inr, refl, sym, ap, subst, ◌∙◌, arith}
+use Rattle.std.proofs.Common.{◌≡◌, ◌⊎◌, ℕ, ◌^◌, ◌<◌, ◌≤◌, Bool, true, false, not, ◌||◌, List, [], ◌∷◌, length, map, get_or, All, Contains, MatchOption, Vec, Global, Option, None, Some, ℤ, pos, ◌+ℤ◌, ◌≤ℤ◌, inl, inr, refl, sym, ap, subst, ◌∙◌, arith}
 use Rattle.std.specs.Int.RustNames.{unsigned_abs}
 use Rattle.std.proofs.lemmas.Int.{ints}
 use Rattle.std.proofs.lemmas.List.Elements.{All-contains}
@@ -13,14 +13,14 @@ use Rattle.sp_model.specs.Stated.{is_at_least, is_at_most}
 use Rattle.sp_sums.specs.Extremes.{is_broken_over, least_over, most_over}
 use Rattle.sp_sums.specs.Ranges.{IsFilled, IsInside}
 use Rattle.sp_sums.specs.Rows.{AreUnbroken, IsBrokenAt, IsFirstBroken, RowsOver, row_at}
-use Rattle.sp_dual.specs.Lists.{MultiplierList, IsWellFormed, zero_list}
+use Rattle.sp_dual.specs.Lists.{MultiplierList, zero_list}
 use Rattle.sp_bound.specs.declared.keeping.Draft.{Draft}
 use Rattle.sp_bound.specs.declared.keeping.Owner.{Owner}
 use Rattle.sp_bound.specs.declared.kept.KeptBounds.{KeptBounds}
-use Rattle.sp_bound.specs.Bounds.{AreRowsKnown, addends, bound_number, bound_of, least_values, reduced_cost, side_product, total}
+use Rattle.sp_bound.specs.Bounds.{AreRowsKnown, addends, bound_of, least_values, reduced_cost, side_product, total}
 use Rattle.sp_bound.specs.Closing.{IsClosing, IsIdle, IsLeftOpen, closes, is_above, list_at}
-use Rattle.sp_bound.specs.Inner.{IsRising, IsSafe, side_total, sizes}
-use Rattle.sp_bound.specs.KeptBounds.{AreCovered, AreOwned, AreRaised, HasRow, IsKeptOf, IsOwned, IsRaised, bounds_of, cost_terms, lists_of, owner_at, threshold_of}
+use Rattle.sp_bound.specs.Inner.{IsRising}
+use Rattle.sp_bound.specs.KeptBounds.{AreCovered, AreOwned, AreRaised, HasRow, IsKeptOf, IsOwned, IsRaised, bounds_of, lists_of, owner_at, threshold_of}
 use Rattle.sp_bound.specs.Keeping.{IsDraftOf, StandsOn}
 use Rattle.sp_bound.specs.Raising.{IsRaising}
 use Rattle.sp_bound.specs.StatedLists.{IsStated, stated_lists}
@@ -29,7 +29,7 @@ use Rattle.sp_bound.proofs.IdleLemmas.{idle_closes, least_values_along}
 use Rattle.sp_bound.proofs.ReadyLemmas.{all_rising}
 use Rattle.sp_bound.proofs.SafeLemmas.{bound-safe, total-size, values-size}
 use Rattle.sp_bound.proofs.SoundLemmas.{IsCeiling}
-use Rattle.sp_bound.proofs.StatedLemmas.{stated_are, stated_first, stated_some}
+use Rattle.sp_bound.proofs.StatedLemmas.{stated_are, stated_first}
 use Rattle.sp_bound.proofs.TermLemmas.{terms-least}
 use Rattle.sp_bound.proofs.ThresholdLemmas.{side_without}
 
@@ -158,17 +158,17 @@ pub asked_read : IsCeiling → (m : ModelParts) (k : KeptBounds) (b : Bounds) (l
 asked_read c m k b ls ps r lawful inside h u e f g a =
     asked_told c m k r lawful inside h u
     (subst (λ (xs : List ℕ). MatchOption r (AskedOpen m (bounds_of k) (threshold_of k) (lists_of k) xs) (IsClosing m (bounds_of k) (threshold_of k) (lists_of k))) g
-      (subst (λ (xs : List MultiplierList). MatchOption r (AskedOpen m (bounds_of k) (threshold_of k) xs ps) (IsClosing m (bounds_of k) (threshold_of k) xs)) f
-        (subst (λ (x : Bounds). MatchOption r (AskedOpen m x (threshold_of k) ls ps) (IsClosing m x (threshold_of k) ls)) e a)))
+    (subst (λ (xs : List MultiplierList). MatchOption r (AskedOpen m (bounds_of k) (threshold_of k) xs ps) (IsClosing m (bounds_of k) (threshold_of k) xs)) f
+    (subst (λ (x : Bounds). MatchOption r (AskedOpen m x (threshold_of k) ls ps) (IsClosing m x (threshold_of k) ls)) e a)))
 
 -- ---- a change of the threshold
 
 pub raised_told : (m n : ModelParts) (old : KeptBounds) (ls : List MultiplierList) (os : List Owner) (t : Option ℤ) (now : RowsOver) → n ≡ m → ls ≡ lists_of old → os ≡ old.owners → IsKeptOf m old → IsRaising n t ls os (length os) old.sums now → IsKeptOf m (record old { sums = now; threshold = t })
 raised_told m n old ls os t now same e f h a =
     let r : IsRaising m t (lists_of old) old.owners (length old.owners) old.sums now =
-      subst (λ (xs : List Owner). IsRaising m t (lists_of old) xs (length xs) old.sums now) f
-      (subst (λ (xs : List MultiplierList). IsRaising m t xs os (length os) old.sums now) e
-        (subst (λ (p : ModelParts). IsRaising p t ls os (length os) old.sums now) same a)) in
+    subst (λ (xs : List Owner). IsRaising m t (lists_of old) xs (length xs) old.sums now) f
+    (subst (λ (xs : List MultiplierList). IsRaising m t xs os (length os) old.sums now) e
+    (subst (λ (p : ModelParts). IsRaising p t ls os (length os) old.sums now) same a)) in
     record {
       stated = h.stated;
       rooted = r.root ∙ h.rooted;

@@ -1,17 +1,16 @@
 -- Rows that get the sides of another threshold, one after another.
-use Rattle.std.proofs.Common.{◌≡◌, ◌≢◌, ℕ, zero, suc, ◌+◌, ◌^◌, ◌<◌, ◌≤◌, Bool, true, false, nat_eq, List, length, map, get_or, set, Option, None, Some, ℤ, refl, sym, ap, subst, ◌∙◌, arith, length-set, get_or-set_same, get_or-set_other, ◌⊎◌, inl, inr}
+use Rattle.std.proofs.Common.{◌≡◌, ◌≢◌, ℕ, ◌+◌, ◌^◌, ◌<◌, ◌≤◌, Bool, true, false, nat_eq, List, length, map, set, Option, ℤ, refl, sym, ap, subst, ◌∙◌, arith, length-set, get_or-set_same, get_or-set_other}
 use Rattle.std.specs.Int.RustNames.{unsigned_abs}
-use Rattle.std.proofs.lemmas.Bool.{cases_lt}
 use Rattle.std.proofs.lemmas.Bool.Decides.{nat_tests}
 use Rattle.sp_model.specs.declared.parts.Row.{Row}
 use Rattle.sp_model.specs.declared.parts.ModelParts.{ModelParts}
 use Rattle.sp_model.specs.Models.{root_of}
-use Rattle.sp_sums.specs.Rows.{RowsOver, bare_row, row_at, with_upper}
+use Rattle.sp_sums.specs.Rows.{RowsOver, bare_row, row_at}
 use Rattle.sp_dual.specs.Lists.{MultiplierList}
 use Rattle.sp_bound.specs.declared.keeping.Owner.{Owner}
 use Rattle.sp_bound.specs.Bounds.{side_product}
 use Rattle.sp_bound.specs.Closing.{list_at}
-use Rattle.sp_bound.specs.KeptBounds.{AreOwned, AreRaised, IsOwned, IsRaised, owner_at}
+use Rattle.sp_bound.specs.KeptBounds.{AreOwned, IsOwned, IsRaised, owner_at}
 use Rattle.sp_bound.specs.Raising.{IsRaising, RaisesRow}
 use Rattle.sp_bound.proofs.SafeLemmas.{total-size}
 

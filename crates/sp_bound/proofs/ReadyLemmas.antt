@@ -1,7 +1,7 @@
 -- What lawful models give: rows that are fit for sums over each box inside the closed one.
 use Rattle.std.proofs.lemmas.Bool.{cases_lt}
 use Rattle.std.proofs.lemmas.List.{get_or_past}
-use Rattle.std.proofs.Common.{◌≡◌, ◌<◌, ◌⊎◌, inl, inr, [], subst, sym, ℕ, List, length, get_or, All, arith}
+use Rattle.std.proofs.Common.{◌≡◌, inl, inr, [], subst, sym, ℕ, List, length, get_or, All, arith}
 use Rattle.sp_model.specs.declared.parts.Row.{Row}
 use Rattle.sp_model.specs.declared.parts.ModelParts.{ModelParts}
 use Rattle.sp_model.specs.Boxes.{Bounds}

@@ -1,11 +1,11 @@
 -- Costs from which the shares of rows are taken, one row after another.
-use Rattle.std.proofs.Common.{◌≡◌, ℕ, ◌<◌, List, [], ◌∷◌, length, get_or, Option, None, Some, ℤ, pos, ◌+ℤ◌, ◌*ℤ◌, All, Bool, true, false, cond, refl, sym, ap, subst, ◌∙◌, arith}
+use Rattle.std.proofs.Common.{◌≡◌, ℕ, ◌<◌, List, [], ◌∷◌, length, Option, None, Some, ℤ, pos, ◌+ℤ◌, All, Bool, true, false, cond, refl, sym, ap, subst, ◌∙◌, arith}
 use Rattle.std.proofs.lemmas.Int.{ints}
 use Rattle.sp_model.specs.declared.parts.ModelParts.{ModelParts}
 use Rattle.sp_model.specs.Boxes.{Bounds}
 use Rattle.sp_dual.specs.Lists.{MultiplierList}
 use Rattle.sp_sums.specs.Rows.{row_at}
-use Rattle.sp_bound.specs.Bounds.{Weight, bound_of, coefficient_in, fits, scaled_cost, share_of}
+use Rattle.sp_bound.specs.Bounds.{Weight, bound_of, fits, scaled_cost}
 use Rattle.sp_bound.specs.Inner.{AreHeld, AreReduced, Changes, IsHeld, cost_at, ended, if_fits, minus, minus_shares, plus, plus_sides, plus_values, reduced}
 use Rattle.sp_bound.proofs.ChangeLemmas.{values-same}
 use Rattle.sp_bound.proofs.HeldLemmas.{bound-held}

@@ -1,5 +1,5 @@
 -- Lists whose numbers stay small on each box inside the closed one: their bounds never end.
-use Rattle.std.proofs.Common.{◌≡◌, ℕ, zero, suc, ◌+◌, ◌*◌, ◌^◌, ◌<◌, ◌≤◌, Bool, true, false, ◌&&◌, cond, nat_lt, List, [], ◌∷◌, ◌++◌, length, map, get_or, Option, None, Some, IsSome, ℤ, pos, negsuc, ◌+ℤ◌, ◌*ℤ◌, ◌≤ℤ◌, ◌<ℤ◌, int_le, refl, sym, ap, subst, ◌∙◌, arith}
+use Rattle.std.proofs.Common.{◌≡◌, ℕ, zero, suc, ◌+◌, ◌*◌, ◌^◌, ◌<◌, ◌≤◌, Bool, true, false, ◌&&◌, cond, nat_lt, List, [], ◌∷◌, ◌++◌, length, map, Option, None, Some, IsSome, ℤ, pos, negsuc, ◌+ℤ◌, ◌*ℤ◌, ◌≤ℤ◌, ◌<ℤ◌, int_le, refl, sym, ap, subst, ◌∙◌, arith}
 use Rattle.std.specs.List.{list_all}
 use Rattle.std.specs.Int.RustNames.{unsigned_abs}
 use Rattle.std.proofs.Math.IntN.{*ℤ_comm}
@@ -19,7 +19,7 @@ use Rattle.sp_dual.specs.Lists.{MultiplierList, zero_list}
 use Rattle.sp_bound.specs.Bounds.{addends, all_variable_numbers, bound_number, bound_of, coefficient_in, fits, least_values, named_numbers, reduced_cost, side_product, sums_from, total, variable_numbers}
 use Rattle.sp_bound.specs.Inner.{IsSafe, is_reduced, sizes, spread}
 use Rattle.sp_bound.proofs.FactorLemmas.{mul-le, mul-turns, one_times, times_one}
-use Rattle.sp_bound.proofs.HeldLemmas.{total-append, variable-fits}
+use Rattle.sp_bound.proofs.HeldLemmas.{variable-fits}
 use Rattle.sp_bound.proofs.SoundLemmas.{IsCeiling}
 use Rattle.sp_bound.proofs.VariableLemmas.{IsNoneAtZero, along, along-same, along-terms, over}
 

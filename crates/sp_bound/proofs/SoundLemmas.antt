@@ -1,5 +1,5 @@
 -- No point of a box that keeps the rows has a smaller objective than a bound.
-use Rattle.std.proofs.Common.{◌≡◌, ◌↔◌, ℕ, zero, suc, ◌<◌, ◌≤◌, Bool, true, false, ◌&&◌, cond, ◌⊎◌, inl, inr, List, [], ◌∷◌, ◌++◌, length, map, get_or, Option, None, Some, unwrap_or, ℤ, pos, negsuc, ◌+ℤ◌, ◌-ℤ◌, ◌*ℤ◌, ◌≤ℤ◌, ◌<ℤ◌, int_lt, int_le, All, AllPairs, refl, sym, ap, ◌∙◌, subst, arith}
+use Rattle.std.proofs.Common.{◌≡◌, ◌↔◌, ℕ, suc, ◌<◌, Bool, true, false, ◌&&◌, cond, inl, inr, List, [], ◌∷◌, length, map, get_or, Option, None, Some, unwrap_or, ℤ, pos, ◌+ℤ◌, ◌-ℤ◌, ◌*ℤ◌, ◌≤ℤ◌, ◌<ℤ◌, int_lt, int_le, All, AllPairs, refl, sym, ap, ◌∙◌, subst, arith}
 use Rattle.std.specs.List.{list_all}
 use Rattle.std.proofs.lemmas.Bool.{cases_lt}
 use Rattle.std.proofs.lemmas.Int.{ints}
@@ -16,10 +16,10 @@ use Rattle.sp_sums.specs.Extremes.{IsSpanned, least_over, most_over, term_least}
 use Rattle.sp_sums.specs.Ranges.{IsInside}
 use Rattle.sp_sums.specs.Rows.{bare_row, row_at}
 use Rattle.sp_dual.specs.Lists.{MultiplierList, IsWellFormed}
-use Rattle.sp_bound.specs.Bounds.{KeepsRows, Weight, addends, bound_number, bound_of, coefficient_in, fits, least_values, left_of, named_numbers, reduced_cost, scaled_cost, share_of, side_of, side_product, total}
-use Rattle.sp_bound.proofs.FactorLemmas.{mul-le, mul-turns, mul-sub}
+use Rattle.sp_bound.specs.Bounds.{KeepsRows, Weight, addends, bound_number, bound_of, coefficient_in, fits, least_values, left_of, named_numbers, reduced_cost, scaled_cost, share_of, side_product, total}
+use Rattle.sp_bound.proofs.FactorLemmas.{mul-le, mul-turns}
 use Rattle.sp_bound.proofs.HeldLemmas.{total-append}
-use Rattle.sp_bound.proofs.VariableLemmas.{along, along-same, along-scale, along-sub, along-terms, none-times, over-point, times}
+use Rattle.sp_bound.proofs.VariableLemmas.{along, along-scale, along-sub, along-terms, none-times, over-point, times}
 
 -- ---- the sides
 

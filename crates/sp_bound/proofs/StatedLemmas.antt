@@ -1,5 +1,5 @@
 -- The stated lists keep the rules of lists, name rows of the model, and have at most one entry.
-use Rattle.std.proofs.Common.{◌≡◌, ◌≢◌, ℕ, zero, suc, ◌+◌, ◌^◌, ◌<◌, ◌≤◌, Bool, true, false, cond, List, [], ◌∷◌, ◌++◌, length, take, get_or, All, ℤ, pos, neg_ℤ, int_lt, ◌≤ℤ◌, refl, sym, ap, subst, ◌∙◌, arith}
+use Rattle.std.proofs.Common.{◌≡◌, ℕ, zero, suc, ◌+◌, ◌<◌, ◌≤◌, Bool, true, false, cond, List, [], ◌∷◌, ◌++◌, length, take, get_or, All, ℤ, pos, neg_ℤ, int_lt, ◌≤ℤ◌, refl, arith}
 use Rattle.std.specs.List.{list_any}
 use Rattle.std.specs.Ordering.{int_eq}
 use Rattle.std.proofs.lemmas.Int.{ints}
@@ -8,7 +8,7 @@ use Rattle.sp_model.specs.declared.parts.Row.{Row}
 use Rattle.sp_model.specs.declared.parts.ModelParts.{ModelParts}
 use Rattle.sp_model.specs.Rules.{IsLawful}
 use Rattle.sp_model.specs.Sums.{Term}
-use Rattle.sp_dual.specs.Lists.{MultiplierList, IsWellFormed, zero_list}
+use Rattle.sp_dual.specs.Lists.{MultiplierList, zero_list}
 use Rattle.sp_bound.specs.Bounds.{Weight, coefficient_in}
 use Rattle.sp_bound.specs.StatedLists.{IsStated, is_same, lists_of_rows, lists_of_terms, new_lists, single_list, stated_lists}
 use Rattle.sp_bound.specs.Stating.{IsFactor, IsSmall}

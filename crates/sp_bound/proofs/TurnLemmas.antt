@@ -1,5 +1,5 @@
 -- Lists that are gone over from the front, stated by what is left.
-use Rattle.std.proofs.Common.{◌≡◌, ℕ, zero, suc, ◌+◌, ◌<◌, ◌≤◌, Bool, true, false, cond, nat_eq, List, [], ◌∷◌, length, drop, get_or, All, subst, sym, ap, ◌∙◌, refl, arith, add-one, drop-cons, ℤ, pos}
+use Rattle.std.proofs.Common.{◌≡◌, ℕ, suc, ◌+◌, ◌<◌, ◌≤◌, Bool, cond, nat_eq, List, [], ◌∷◌, length, drop, get_or, All, subst, sym, ap, ◌∙◌, arith, add-one, drop-cons, pos}
 use Rattle.std.proofs.lemmas.List.{drop_all}
 use Rattle.sp_model.specs.Boxes.{Bounds, range_at}
 use Rattle.sp_model.specs.Sums.{Term}

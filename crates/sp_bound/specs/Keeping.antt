@@ -1,5 +1,5 @@
 -- What private functions say of the lists that get rows.
-use Rattle.std.specs.Prelude.{◌≡◌, ℕ, ◌+◌, ◌-◌, ◌*◌, ◌^◌, ◌<◌, ◌≤◌, List, [], ◌∷◌, ◌++◌, cond, length, map, All, IsSome, Option, None, Some, unwrap_or, ℤ, pos, unsigned_abs}
+use Rattle.std.specs.Prelude.{◌≡◌, ℕ, ◌+◌, ◌-◌, ◌*◌, ◌^◌, ◌<◌, ◌≤◌, List, [], ◌∷◌, ◌++◌, cond, length, map, All, IsSome, Option, None, unwrap_or, ℤ, pos, unsigned_abs}
 use Rattle.std.specs.Ordering.{int_eq}
 use Rattle.sp_model.specs.declared.parts.Row.{Row}
 use Rattle.sp_model.specs.declared.parts.ModelParts.{ModelParts}

@@ -1,5 +1,5 @@
 -- What kept bounds are of a model: its stated lists, of which some stand as rows over one box and others are asked.
-use Rattle.std.specs.Prelude.{◌≡◌, ◌⊎◌, ℕ, suc, ◌^◌, ◌<◌, ◌≤◌, not, cond, List, [], ◌∷◌, length, slice_index_or, All, Contains, Option, None, Some, ℤ, pos, ◌+ℤ◌, unsigned_abs}
+use Rattle.std.specs.Prelude.{◌≡◌, ◌⊎◌, ℕ, suc, ◌<◌, cond, List, [], ◌∷◌, length, slice_index_or, All, Contains, Option, None, ℤ, pos}
 use Rattle.std.specs.Ordering.{int_eq}
 use Rattle.sp_model.specs.declared.parts.Row.{Row}
 use Rattle.sp_model.specs.declared.parts.ModelParts.{ModelParts}

@@ -53,7 +53,9 @@ const HALVED: Plain = Plain {
 };
 
 const THREES: [i128; 16] = [3; 16];
+
 const ONES: [i64; 32] = [1; 32];
+
 const MINUS: [i128; 32] = [-1; 32];
 
 /// Two rows, each over half of the variables.
@@ -78,7 +80,12 @@ const TWO_ROWS: Plain = Plain {
 
 /// A model, a divisor, rows with multipliers, and the bound on the closed box.
 const BOUNDS: [(&Plain, i128, &[(u32, i128)], Option<i128>); 9] = [
-    (&WIDEST, 1, &[(0, 1)], Some(2_999_999 - 1_000_000_000_000_000_000_000_000_000_000_000_000)),
+    (
+        &WIDEST,
+        1,
+        &[(0, 1)],
+        Some(2_999_999 - 1_000_000_000_000_000_000_000_000_000_000_000_000),
+    ),
     (&WIDEST, 1, &[(0, 1_000)], None),
     (&WIDEST, 1, &[], Some(0)),
     (&HALVED, 2, &[(0, -1)], Some(-2)),
@@ -197,7 +204,12 @@ fn is_bound(
 #[test]
 fn bounds_are_as_by_hand(rt: HostRuntime) -> Result<(), Fail> {
     for case in &BOUNDS {
-        assert!(rt; matches!(is_bound(rt.alloc(), case.0, case.1, case.2, case.3), Ok(true)));
+        assert!(rt;
+            matches!(
+                is_bound(rt.alloc(), case.0, case.1, case.2, case.3),
+                Ok(true)
+            )
+        );
     }
     Ok(())
 }

@@ -1,6 +1,4 @@
-use Rattle.std.proofs.Common.{◌≡◌, Option, ℤ, ◌∙◌, ap, arith}
-use Rattle.sp_model.specs.declared.parts.ModelParts.{ModelParts}
-use Rattle.sp_bound.specs.Bounds.{bound_of}
+use Rattle.std.proofs.Common.{arith}
 use Rattle.sp_bound.proofs.HeldLemmas.{bound_told}
 use Rattle.sp_bound.proofs.ReadyLemmas.{rows_narrow}
 use Rattle.sp_bound.proofs.SafeLemmas.{zero_told}

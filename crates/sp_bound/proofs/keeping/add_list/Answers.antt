@@ -1,4 +1,4 @@
-use Rattle.std.proofs.Common.{◌≡◌, length, ap, subst, sym, ◌∙◌}
+use Rattle.std.proofs.Common.{length, ap, subst, ◌∙◌}
 use Rattle.sp_bound.specs.Keeping.{TellsSides}
 use Rattle.sp_bound.proofs.DraftLemmas.{added_told}
 use Rattle.sp_bound.proofs.keeping.add_list.Goals as goal

@@ -1,7 +1,7 @@
 use Rattle.std.proofs.Common.{◌+◌, refl, ◌∙◌}
 use Rattle.std.proofs.lemmas.List.{get_or_read}
 use Rattle.sp_dual.specs.Lists.{zero_list}
-use Rattle.sp_bound.proofs.DraftLemmas.{draft_start, draft_turn}
+use Rattle.sp_bound.proofs.DraftLemmas.{draft_turn}
 use Rattle.sp_bound.proofs.keeping.drafted.Goals as goal
 
 pub loop-at-preserved : goal.loop-at-preserved

@@ -1,4 +1,4 @@
-use Rattle.std.proofs.Common.{◌≡◌, ℕ, ◌<◌, length, get_or, Option, Some, ℤ, pos}
+use Rattle.std.proofs.Common.{length}
 use Rattle.sp_bound.specs.Inner.{AreCleared}
 use Rattle.sp_bound.proofs.scratch.clear.Given as goal
 

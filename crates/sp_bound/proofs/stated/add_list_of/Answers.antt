@@ -1,4 +1,4 @@
-use Rattle.std.proofs.Common.{◌≡◌, to_z, of_z, FitsSigned, ap, sym, ◌∙◌, rules, subst, ℤ}
+use Rattle.std.proofs.Common.{FitsSigned, sym, ◌∙◌, rules, subst, ℤ}
 use Rattle.std.specs.Int.{w128}
 use Rattle.std.proofs.lemmas.Int.{to_z-of_z}
 use Rattle.sp_bound.specs.Stating.{AddsLists, IsSmall, lists_with}

@@ -1,5 +1,4 @@
-use Rattle.std.proofs.Common.{◌≡◌, ◌<◌, ℕ, List, All, ap, arith, length, subst, sym, ◌∙◌}
-use Rattle.sp_model.specs.Boxes.{Bounds}
+use Rattle.std.proofs.Common.{◌≡◌, ◌<◌, ℕ, List, All, ap, length, subst, sym, ◌∙◌}
 use Rattle.sp_model.specs.Models.{root_of}
 use Rattle.sp_sums.specs.Ranges.{IsInside}
 use Rattle.sp_dual.specs.Lists.{MultiplierList}

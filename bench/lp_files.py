@@ -79,7 +79,8 @@ a second of the processor; memory is the peak as `/usr/bin/time` tells it.
 
 {many[0] / few[0]:.1f} times the bytes take {many[1] / few[1]:.1f} times as long here, and {many[3] / few[3]:.1f} times in \
 glpsol. Rows take {many[1] / many[2]:.2f} times
-what their tokens take, the long line {long[1] / long[2]:.2f} times.
+what their tokens take, the long line {long[1] / long[2]:.2f} times. By one profile a third of the reader's time on
+rows goes into looking names up, and a sixth into the tokens.
 """
     put("lp", text)
     print(text)

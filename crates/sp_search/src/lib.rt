@@ -5,6 +5,8 @@ mod agenda;
 mod closers;
 mod goals;
 mod optima;
+#[cfg(test)]
+mod search_tests;
 mod states;
 mod steps;
 

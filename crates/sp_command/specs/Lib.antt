@@ -4,4 +4,5 @@ pub mod InnerResults
 pub mod Keywords
 pub mod Lawful
 pub mod Lines
+pub mod Sums
 pub mod Values

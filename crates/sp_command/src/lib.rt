@@ -2,6 +2,7 @@
 #![tactic(auto)]
 
 mod bounds;
+mod command_laws;
 mod commands;
 mod diversity;
 mod filters;
@@ -14,6 +15,7 @@ mod refusals;
 mod settings;
 mod tables;
 
+pub use command_laws::sums_are_read_by_their_grammar;
 pub use commands::{Command, DiversityTerm, RangeTerm, Setting, Shown};
 pub use parsing::parse;
 pub use refusals::CommandRefusal;

@@ -40,8 +40,9 @@ def write_rows(path, mebibytes):
 
 def write_line(path, mebibytes):
     """Writes a file whose objective is a single line; its length in bytes and its terms."""
-    terms = mebibytes * 2**20 // 10
-    text = "Maximize\n obj: " + " + ".join(f"{number % 9 + 1} y{number % 50_000}" for number in range(terms)) + "\nEnd\n"
+    terms = mebibytes * 2**20 // 48
+    items = (f"{place % 9 + 1}.{place % 10} quantity_shipped_from_{place:07}_to_north" for place in range(terms))
+    text = "Maximize\n obj: " + " + ".join(items) + "\nSubject To\n c: y >= 1\nEnd\n"
     path.write_text(text)
     return len(text), terms
 

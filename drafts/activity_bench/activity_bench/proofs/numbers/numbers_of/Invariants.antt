@@ -1,5 +1,0 @@
-use Rattle.std.proofs.Common.{length}
-use Rattle.activity_bench.proofs.numbers.numbers_of.Given as goal
-
-abbrev pub decreases-loop-word : goal.decreases-loop-word
-decreases-loop-word l = length l.rest

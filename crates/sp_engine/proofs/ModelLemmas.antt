@@ -10,7 +10,7 @@ use Rattle.sp_lower.specs.declared.refusals.LowerRefusal.{LowerRefusal}
 use Rattle.sp_lower.specs.declared.refusals.LowerRefusal.TheVariants as unmade
 use Rattle.sp_lower.specs.Lowering.{model_of, refusal_of}
 use Rattle.sp_lower.specs.Variables.{stated_lower}
-use Rattle.sp_model.specs.declared.memory.NoMemory.{NoMemory}
+use Rattle.sp_model.specs.declared.no_memory.NoMemory.{NoMemory}
 use Rattle.sp_draft.specs.declared.drafts.Draft.{Draft}
 use Rattle.sp_draft.specs.declared.read_refusals.ReadRefusal.{ReadRefusal}
 use Rattle.sp_draft.specs.declared.read_refusals.ReadRefusal.TheVariants as unread

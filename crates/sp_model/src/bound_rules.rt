@@ -14,7 +14,7 @@ use crate::ends::OpenRange;
 use crate::ids::VarId;
 use crate::items::Items;
 use crate::limits::{GREATEST_BOUND, MOST_VARIABLES};
-use crate::memory::NoMemory;
+use crate::no_memory::NoMemory;
 use crate::parts::ModelParts;
 use crate::refusal::BuildRefusal;
 use crate::rounds::{is_closed, rounded};

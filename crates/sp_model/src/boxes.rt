@@ -5,7 +5,7 @@ ghost use Rattle.sp_model.specs.Boxes.{ranges, range_at, width_of, point_count, 
 
 use crate::ids::VarId;
 use crate::items::Items;
-use crate::memory::NoMemory;
+use crate::no_memory::NoMemory;
 use crate::points::Point;
 use std::alloc::Global;
 use std::marker::Model;

@@ -8,15 +8,15 @@ ghost use Rattle.sp_model.specs.Rules.{IsLawful, IsFirstFault};
 
 use crate::bound_rules::closed_box;
 use crate::boxes::BoxOf;
+use crate::feasibility::do_all_hold;
 use crate::ids::VarId;
 use crate::items::Items;
-use crate::memory::NoMemory;
+use crate::no_memory::NoMemory;
 use crate::parts::ModelParts;
 use crate::points::Point;
 use crate::refusal::BuildRefusal;
 use crate::rules::check;
 use crate::sums::sum_from;
-use crate::truths::do_all_hold;
 use std::alloc::Global;
 
 /// A model whose parts keep all rules. Contracts see it as its parts.

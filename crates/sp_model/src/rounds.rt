@@ -11,7 +11,7 @@ use crate::closing::after_rules;
 use crate::ends::{Ends, OpenRange, ends_of, plus};
 use crate::ids::VarId;
 use crate::limits::{GREATEST_WIDTH, MOST_ROUNDS};
-use crate::memory::NoMemory;
+use crate::no_memory::NoMemory;
 use crate::parts::{ModelParts, Row};
 use crate::sums::{side_size, size_of};
 use crate::tails::{Tails, note_tails, others};

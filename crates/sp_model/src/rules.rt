@@ -9,7 +9,7 @@ ghost use Rattle.sp_model.specs.Rules.{IsObjectiveLawful, IsRowLawful, IsBinary,
 use crate::boxes::BoxOf;
 use crate::ids::{RowId, VarId};
 use crate::limits::{GREATEST_SCALE, GREATEST_WIDTH, MOST_INDICATORS, MOST_ROWS, MOST_SETS};
-use crate::memory::NoMemory;
+use crate::no_memory::NoMemory;
 use crate::parts::{Indicator, ModelParts, Row, Sos};
 use crate::refusal::BuildRefusal;
 use crate::sums::{room_beside, side_size, size_of};

@@ -8,7 +8,7 @@ ghost use Rattle.sp_model.specs.Sums.{Term, side_width};
 use crate::ends::{Ends, OpenRange, ends_of};
 use crate::ids::VarId;
 use crate::limits::GREATEST_WIDTH;
-use crate::memory::NoMemory;
+use crate::no_memory::NoMemory;
 
 /// How a sum goes on: by how much it changes in all, and by how much at most on the way, downwards and upwards.
 #[derive(Clone, Copy)]

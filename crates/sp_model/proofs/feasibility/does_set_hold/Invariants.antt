@@ -1,7 +1,7 @@
 use Rattle.std.proofs.Common.{◌≤◌, drop, map}
 use Rattle.sp_model.specs.Boxes.{coordinate}
 use Rattle.sp_model.proofs.SetLemmas.{SetTurns}
-use Rattle.sp_model.proofs.truths.does_set_hold.Given as goal
+use Rattle.sp_model.proofs.feasibility.does_set_hold.Given as goal
 
 abbrev pub invariant-loop-var : goal.invariant-loop-var
 invariant-loop-var l =

@@ -1,7 +1,7 @@
 use Rattle.std.proofs.Common.{map, arith}
 use Rattle.sp_model.specs.Boxes.{coordinate}
 use Rattle.sp_model.proofs.SetLemmas.{set_start, set_turn, set_done, count_few}
-use Rattle.sp_model.proofs.truths.does_set_hold.Goals as goal
+use Rattle.sp_model.proofs.feasibility.does_set_hold.Goals as goal
 
 pub loop-var-init : goal.loop-var-init
 loop-var-init c = record { few = omega arith; turns = set_start (map (coordinate c.args.x.now) c.args.set.now.vars) }

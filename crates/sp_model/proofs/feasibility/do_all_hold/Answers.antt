@@ -1,5 +1,5 @@
 use Rattle.sp_model.proofs.ModelLemmas.{cores_known, rows_safe, indicators_known, indicators_safe, sets_known}
-use Rattle.sp_model.proofs.truths.do_all_hold.Goals as goal
+use Rattle.sp_model.proofs.feasibility.do_all_hold.Goals as goal
 
 pub do_cores_hold-cores-requires : goal.do_cores_hold-cores-requires
 do_cores_hold-cores-requires c =

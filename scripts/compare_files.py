@@ -4,8 +4,9 @@
 usage: scripts/compare_files.py [--files N] [--seed S]     after the program was built, as ./solpool does
 
 First come the files of examples/, and then N random small models, each written as an LP or an MPS file: most of them can
-be solved, some are to be refused. Each file of which a line differs is shown. Status 0 where there is none, else 1. It
-stands beside the gate, and builds nothing.
+be solved, some are to be refused. The random ones are listed under random gaps, now and then under a small node limit.
+Each file of which a line differs is shown. Status 0 where there is none, else 1. It stands beside the gate, and builds
+nothing.
 """
 import argparse
 import os
@@ -14,12 +15,14 @@ import random
 import subprocess
 import sys
 import tempfile
+from fractions import Fraction
 
 import slow_solver
 
 TOP = pathlib.Path(__file__).resolve().parent.parent
 PROGRAM = pathlib.Path(os.environ.get("SOLPOOL", TOP / "crates" / "solpool" / "out" / "solpool"))
 NUMBERS = ["1", "1", "2", "3", "-1", "-2", "0.5", "1.25", "-0.1", ".3", "2e0", "10", "0", "7e-2"]
+ENDLESS = 10 ** 20
 RARE = ["1e15", "1e16", "-1e20", "1e30", "inf", "1e-31", "999999999999999999999999999999", "1e-30"]
 
 
@@ -191,10 +194,35 @@ def random_file(draw):
     return f"model.{ending}", text.encode()
 
 
-def answer(folder, name, data):
+def random_words(draw):
+    """Words of a command line before the file, the gaps that they say, and the node limit."""
+    words, absolute, relative, limit = [], Fraction(0), None, None
+    if draw.random() < 0.7:
+        text = draw.choice(["0", "1", "2.5", "0.05", "1e1", "3e-1", "1e20", "1e75", "7", "100"])
+        words += draw.choice([["--absgap", text], [f"--absgap={text}"]])
+        absolute = None if Fraction(text) >= ENDLESS else Fraction(text)
+    if draw.random() < 0.4:
+        text = draw.choice(["0", "0.5", "1", "0.1", "0.25", "1e20", "2", ".3"])
+        words += draw.choice([["--relgap", text], [f"--relgap={text}"]])
+        relative = None if Fraction(text) >= ENDLESS else Fraction(text)
+    if draw.random() < 0.2:
+        limit = draw.choice([1, 2, 3, 5, 9, 40])
+        words += draw.choice([["--nodes", str(limit)], [f"--nodes={limit}"]])
+    return words + (["--"] if draw.random() < 0.1 else []), (absolute, relative), limit
+
+
+def is_stopped(lines, limit):
+    """Whether the lines say that a tree with an odd number of nodes had no room under this limit."""
+    if limit is None or len(lines) != 2 or lines[0] != "status nodelimit" or not lines[1].startswith("nodes "):
+        return False
+    nodes = int(lines[1].removeprefix("nodes "))
+    return nodes % 2 == 1 and nodes <= limit < nodes + 2
+
+
+def answer(folder, words, name, data):
     """What the program prints of a file, and its status."""
     pathlib.Path(folder, name).write_bytes(data)
-    done = subprocess.run([PROGRAM, name], cwd=folder, capture_output=True, check=False)
+    done = subprocess.run([PROGRAM, *words, name], cwd=folder, capture_output=True, check=False)
     return done.stdout.decode("latin-1").split("\n")[:-1], done.returncode
 
 
@@ -207,16 +235,23 @@ def main():
     draw = random.Random(given.seed)
     shelf = [(path.name, path.read_bytes()) for path in sorted((TOP / "examples").rglob("*.*")) if path.suffix != ".md"]
     kinds, differ = {}, 0
+    asked = [(file, ([], slow_solver.OPTIMA, None)) for file in shelf]
+    asked += [(random_file(draw), random_words(draw)) for _ in range(given.files)]
     with tempfile.TemporaryDirectory() as folder:
-        for name, data in shelf + [random_file(draw) for _ in range(given.files)]:
-            wanted = slow_solver.printed(name, data)
+        for (name, data), (words, gaps, limit) in asked:
+            wanted = slow_solver.printed(name, data, gaps)
+            if wanted is None:
+                kinds["too many points"] = kinds.get("too many points", 0) + 1
+                continue
             status = 1 if wanted[0].startswith("refused") else 0
+            got = answer(folder, words, name, data)
             kind = " ".join(wanted[0].split(" ")[:2]) if status else wanted[1] if "infeasible" in wanted else wanted[0]
+            if not status and got[1] == 0 and is_stopped(got[0], limit):
+                kind, wanted = "status nodelimit", got[0]
             kinds[kind] = kinds.get(kind, 0) + 1
-            got = answer(folder, name, data)
             if got != (wanted, status):
                 differ += 1
-                print(data.decode("latin-1"), f"{name}: wanted {wanted}", f"and got {got}", sep="\n")
+                print(data.decode("latin-1"), f"{name} {words}: wanted {wanted}", f"and got {got}", sep="\n")
     print(", ".join(f"{kind} {count}" for kind, count in sorted(kinds.items())))
     print(f"{len(shelf) + given.files} files, {differ} printed differently")
     return 1 if differ else 0

@@ -6,6 +6,7 @@ fractions, and says what has to be printed. It shares nothing with the proved pr
 import re
 from fractions import Fraction
 from itertools import product
+from math import floor, prod
 
 import compare_lowering as lowering
 import slow_lp
@@ -18,7 +19,9 @@ COUNTED = {"Variables": "variables", "Rows": "rows", "Terms": "terms", "Indicato
 NAMED = {"Continuous": "3 continuous", "OpenVariable": "4 open variable", "WideBound": "5 wide bound",
          "NegativeUpper": "11 negative upper"}
 PLACED = {"WideRow": "6 wide row", "BadIndicator": "13 bad indicator", "BadSos": "14 bad sos"}
-NODE_LIMIT = 200_000
+CEILING = 10 ** 36
+MOST_POINTS = 10 ** 6
+OPTIMA = (Fraction(0), None)
 
 
 def value(word):
@@ -144,23 +147,35 @@ def is_feasible(draft, cores, point):
             and all(set_holds(a_set, point) for a_set in draft["sets"]))
 
 
-def listed(draft, names):
-    """The lines of the list of all optimal points, best first and then in lexicographic order."""
+def cut_of(best, scale, gaps):
+    """The greatest objective that is listed, in whole units and minimised, where the best one is that."""
+    absolute, relative = gaps
+    parts = [CEILING]
+    if absolute is not None:
+        parts.append(best + floor(absolute * 10 ** scale))
+    if relative is not None:
+        parts.append(best + floor(relative * abs(best)))
+    return min(parts)
+
+
+def listed(draft, names, gaps):
+    """The lines of the list of all points within the gaps of the optimum, best first and then in lexicographic order; None
+    where there are too many points to go over."""
     box, cores = box_of(draft)
-    count = 1
-    for low, high in box:
-        count *= max(0, high - low + 1)
-    if 2 * count - 1 > NODE_LIMIT:
-        return ["status nodelimit", "nodes 199999"]
+    if prod(max(0, high - low + 1) for low, high in box) > MOST_POINTS:
+        return None
     found = [(sum(draft["constants"], total(draft["cost"], point)), point)
              for point in product(*(range(low, high + 1) for low, high in box)) if is_feasible(draft, cores, point)]
     if not found:
         return ["status done", "infeasible", "solutions 0"]
-    best = (max if draft["max"] else min)(reached for reached, _ in found)
-    chosen = [point for reached, point in found if reached == best]
-    lines = ["status done", f"optimum {decimal(best)}", f"solutions {len(chosen)}"]
-    for point in chosen:
-        lines.append(" ".join([f"{decimal(best)} :"] + [f"{name} {at}" for name, at in zip(names, point) if at]))
+    scale = max(map(lowering.places, [number for _, number in draft["cost"]] + draft["constants"]), default=0)
+    turn = -1 if draft["max"] else 1
+    best = turn * (max if draft["max"] else min)(reached for reached, _ in found)
+    cut = cut_of(int(best * 10 ** scale), scale, gaps)
+    chosen = sorted((turn * reached, point) for reached, point in found if turn * reached * 10 ** scale <= cut)
+    lines = ["status done", f"optimum {decimal(turn * best)}", f"solutions {len(chosen)}"]
+    for reached, point in chosen:
+        lines.append(" ".join([f"{decimal(turn * reached)} :"] + [f"{name} {at}" for name, at in zip(names, point) if at]))
     return lines
 
 
@@ -182,8 +197,9 @@ def read(name, data):
     return f"refused {NUMBERS[kind]} {kind} line {line}"
 
 
-def printed(name, data):
-    """The lines that the program has to print of a file."""
+def printed(name, data, gaps=OPTIMA):
+    """The lines that the program has to print of a file, where the node limit doesn't stop it. The gaps are the absolute and
+    the relative one, None where there is no limit."""
     found = read(name, data)
     if isinstance(found, str):
         return [found]
@@ -192,4 +208,4 @@ def printed(name, data):
         lowering.lowered(lines)
     except lowering.Refused as reason:
         return [refusal(str(reason), names)]
-    return listed(lowering.parsed(lines), names)
+    return listed(lowering.parsed(lines), names, gaps)

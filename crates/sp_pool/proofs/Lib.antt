@@ -3,3 +3,4 @@ pub mod LineLemmas
 pub mod RankLemmas
 pub mod SweepLemmas
 pub mod PoolLemmas
+pub mod SerialLemmas

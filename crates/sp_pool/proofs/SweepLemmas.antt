@@ -9,10 +9,10 @@ use Rattle.std.specs.List.{list_any}
 use Rattle.std.specs.List.Sorted.{IsNonDecreasing, IsBinarySearchResult}
 use Rattle.std.specs.Ordering.{nat_cmp}
 use Rattle.sp_pool.specs.declared.members.Member.{Member}
-use Rattle.sp_pool.specs.Pools.{is_listed, holds}
+use Rattle.sp_pool.specs.Pools.{is_listed}
 use Rattle.sp_pool.specs.InnerLines.{Keyed, Row, has_key, AreApart, without_key, member_at, keys, members_in}
-use Rattle.sp_pool.specs.InnerRanks.{by_rank, at_keys, is_serial, is_held, unless_listed, swept, IsRanked}
-use Rattle.sp_pool.proofs.RankLemmas.{any_ranked, any_members, AllFound, found_ranked, by_rank_filter, apart_filter, filter_yes, filter_no, no_either, either_back, eqb_self}
+use Rattle.sp_pool.specs.InnerRanks.{by_rank, is_held, unless_listed, swept, IsRanked}
+use Rattle.sp_pool.proofs.RankLemmas.{any_ranked, AllFound, found_ranked, by_rank_filter, apart_filter, filter_yes, filter_no, no_either, either_back, eqb_self}
 
 -- ---- one member that is looked at
 
@@ -22,10 +22,10 @@ unless_absent serials key (p ∷ ps) h =
     let e = no_either (eqb p.0 key) (has_key key ps) h in
     filter_yes (λ (q : Keyed). not (eqb q.0 key) || is_listed serials q.1) p ps (ap (λ b. not b || is_listed serials p.1) e.0) ∙ ap (λ xs. p ∷ xs) (unless_absent serials key ps e.1)
 
-same_key : (j k : ℕ) → eqb j k ≡ true → j ≡ k
+pub same_key : (j k : ℕ) → eqb j k ≡ true → j ≡ k
 same_key j k t = grind (arith, nat_tests)
 
-some_member : (a b : Member) → Some a ≡ Some b → a ≡ b
+pub some_member : (a b : Member) → Some a ≡ Some b → a ≡ b
 some_member a b e = cc
 
 pub unless_kept : (serials : List ℕ) (key : ℕ) (ps : List Keyed) (m : Member) → AreApart ps → Some m ≡ member_at key ps → is_listed serials m ≡ true → unless_listed serials key ps ≡ ps
@@ -41,7 +41,7 @@ unless_kept serials key (p ∷ ps) m h at l =
           ∙ ap (λ xs. p ∷ xs) (unless_kept serials key ps m h.1 (at ∙ cond-false (eqb p.0 key) (Some p.1) (member_at key ps) f) l)
     ]
 
-without_none : (key : ℕ) (ps : List Keyed) → has_key key ps ≡ false → without_key key ps ≡ ps
+pub without_none : (key : ℕ) (ps : List Keyed) → has_key key ps ≡ false → without_key key ps ≡ ps
 without_none key [] h = refl
 without_none key (p ∷ ps) h = let e = no_either (eqb p.0 key) (has_key key ps) h in filter_yes (λ (q : Keyed). not (eqb q.0 key)) p ps (ap not e.0) ∙ ap (λ xs. p ∷ xs) (without_none key ps e.1)
 
@@ -188,16 +188,7 @@ ranked_retain row row' ranks ranks' serials h is kept =
       ap members_in items ∙ members_filter (is_listed serials) row.items,
     )
 
--- ---- serials
-
-pub serial_held : (row : Row) (ranks : List ℕ) (serial : ℕ) → IsRanked row ranks → list_any (at_keys (is_serial serial) row.items) ranks ≡ holds (members_in row.items) serial
-serial_held row ranks serial h =
-    ap (list_any (at_keys (is_serial serial) row.items)) h.ranked ∙ through (by_rank row.items) (found_ranked row.items h.apart)
-    ∙ any_ranked (λ (p : Keyed). eqb p.1.serial serial) row.items ∙ any_members (λ m. eqb m.serial serial) row.items
-  where
-    through : (qs : List Keyed) → AllFound row.items qs → list_any (at_keys (is_serial serial) row.items) (keys qs) ≡ list_any (λ (q : Keyed). eqb q.1.serial serial) qs
-    through [] f = refl
-    through (q ∷ qs) f = ap (λ m. is_serial serial m || list_any (at_keys (is_serial serial) row.items) (keys qs)) f.0 ∙ ap (λ b. eqb q.1.serial serial || b) (through qs f.1)
+-- ---- serials that are listed
 
 pub listed_by_halves : (xs : List ℕ) (x : ℕ) (r : Result ℕ ℕ) → IsNonDecreasing xs → IsBinarySearchResult (λ y. nat_cmp y x) xs r → is_ok r ≡ list_any (λ y. eqb y x) xs
 listed_by_halves xs x (Ok i) up h =
@@ -216,15 +207,6 @@ listed_by_halves xs x (Err i) up h =
         ]
 
 -- ---- loops
-
-pub any_here : (test : ℕ → Bool) (ks : List ℕ) (i key : ℕ) → i < length ks → key ≡ get_or ks i key → test key ≡ true → list_any test (drop i ks) ≡ list_any test ks → list_any test ks ≡ true
-any_here test ks i key lt is t h = sym h ∙ ap (list_any test) (drop_more ks i key lt) ∙ ap (λ k. test k || list_any test (drop (i + 1) ks)) (sym is) ∙ ap (λ b. b || list_any test (drop (i + 1) ks)) t
-
-pub any_later : (test : ℕ → Bool) (ks : List ℕ) (i key : ℕ) → i < length ks → key ≡ get_or ks i key → test key ≡ false → list_any test (drop i ks) ≡ list_any test ks → list_any test (drop (i + 1) ks) ≡ list_any test ks
-any_later test ks i key lt is f h = sym (ap (list_any test) (drop_more ks i key lt) ∙ ap (λ k. test k || list_any test (drop (i + 1) ks)) (sym is) ∙ ap (λ b. b || list_any test (drop (i + 1) ks)) f) ∙ h
-
-pub any_nowhere : (test : ℕ → Bool) (ks : List ℕ) (i : ℕ) → length ks ≤ i → list_any test (drop i ks) ≡ list_any test ks → list_any test ks ≡ false
-any_nowhere test ks i le h = sym h ∙ ap (list_any test) (drop_all i ks le)
 
 pub swept_more : (serials ks : List ℕ) (i key : ℕ) (ps : List Keyed) → i < length ks → key ≡ get_or ks i key → swept serials (drop (i + 1) ks) (unless_listed serials key ps) ≡ swept serials (drop i ks) ps
 swept_more serials ks i key ps lt is = sym (ap (λ rs. swept serials rs ps) (drop_more ks i key lt) ∙ ap (λ k. swept serials (drop (i + 1) ks) (unless_listed serials k ps)) (sym is))

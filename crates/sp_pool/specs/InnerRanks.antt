@@ -28,11 +28,6 @@ is_up_to value (Some m) = int_le m.value value
 abbrev pub is_held : List Keyed → ℕ → Bool
 is_held ps key = is_some (member_at key ps)
 
--- whether the member has the serial
-abbrev pub is_serial : ℕ → Option Member → Bool
-is_serial serial None = false
-is_serial serial (Some m) = m.serial == serial
-
 -- the members without the one under the key, unless its serial is listed
 abbrev pub unless_listed : List ℕ → ℕ → List Keyed → List Keyed
 unless_listed serials key ps = filter (λ p. not (p.0 == key) || is_listed serials p.1) ps

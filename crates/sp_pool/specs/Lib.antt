@@ -1,4 +1,5 @@
 pub mod InnerLines
 pub mod InnerPools
 pub mod InnerRanks
+pub mod InnerSerials
 pub mod Pools

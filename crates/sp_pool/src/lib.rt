@@ -8,6 +8,7 @@ mod nodes;
 mod pool_laws;
 mod pools;
 mod rankings;
+mod serials;
 
 pub use events::PoolEvent;
 pub use members::{Member, Offered, Rule};

@@ -3,34 +3,38 @@
 ghost use Rattle.std.specs.Prelude.{◌≡◌, ◌+◌, ◌<◌, ◌≤◌, [], ◌∷◌, ◌++◌, ℕ, length, drop, not, option_copied, IsOk, OnOk, filter, IfOk, vec_capacity, ◌==◌};
 ghost use Rattle.std.specs.List.{list_any, prefix_len};
 ghost use Rattle.std.specs.List.Sorted.{IsNonDecreasing};
-ghost use Rattle.sp_pool.specs.InnerLines.{AreApart, member_at};
-ghost use Rattle.sp_pool.specs.InnerRanks.{is_lesser, is_up_to, is_serial, is_held, unless_listed, swept, at_keys, IsParted};
+ghost use Rattle.sp_pool.specs.InnerLines.{AreApart, member_at, members_in, without_key};
+ghost use Rattle.sp_pool.specs.InnerRanks.{is_lesser, is_up_to, is_held, unless_listed, swept, at_keys, IsParted};
+ghost use Rattle.sp_pool.specs.InnerSerials.{IsTally};
 ghost use Rattle.sp_pool.specs.Pools.{is_above, within, without_worst, holds, is_listed};
 
 use crate::lines::Line;
 use crate::members::Member;
+use crate::serials::{Serials, lists};
 use sp_model::NoMemory;
 use std::alloc::Global;
 use std::marker::Model;
 
-/// Members in the pool's order, with an index by value.
+/// Members in the pool's order, with an index by value and their serials.
 #[derive(Drop)]
 pub(crate) struct Ranking {
     line: Line,
     // The keys of the members by value, and those of one value as they arrived.
     by_value: Vec<usize>,
+    serials: Serials,
 }
 
 impl Model for Ranking {
     ghost use Rattle.std.specs.Prelude.{min, vec_capacity};
     ghost use Rattle.sp_pool.specs.InnerLines.{members_in};
-    ghost use Rattle.sp_pool.specs.InnerRanks.{Roll, IsRanked};
+    ghost use Rattle.sp_pool.specs.InnerRanks.{Roll};
+    ghost use Rattle.sp_pool.specs.InnerSerials.{IsIndexed};
 
     ghost Value = { Roll };
 
-    ghost view = { λ r. record { members = members_in r.line.items; storage = min r.line.capacity (vec_capacity r.by_value) } };
+    ghost view = { λ r. record { members = members_in r.line.items; storage = min (min r.line.capacity (vec_capacity r.by_value)) r.serials.capacity } };
 
-    ghost invariant = { λ r. IsRanked r.line r.by_value.items };
+    ghost invariant = { λ r. IsIndexed r.line r.by_value.items r.serials.items };
 }
 
 /// Whether the member under the key has a lesser value.
@@ -69,34 +73,19 @@ fn count_up_to(line: &Line, by_value: &[usize], value: &i128) -> usize
     by_value.partition_point(|key| has_up_to(line, *key, value))
 }
 
-/// Whether the member under the key has this serial.
-fn has_serial(line: &Line, key: usize, serial: u32) -> bool
-    ensures { result ≡ is_serial serial (member_at key line.now.items) }
+/// Takes the member under the key and its serial out, if there is one.
+fn take_out(line: &mut Line, serials: &mut Serials, key: usize)
+    requires apart { AreApart line.old.items }
+    requires tally { IsTally serials.old.items (members_in line.old.items) }
+    ensures items { line.new.items ≡ without_key key line.old.items }
+    ensures capacity { line.new.capacity ≡ line.old.capacity }
+    ensures tally { IsTally serials.new.items (members_in line.new.items) }
+    ensures room { serials.new.capacity ≡ serials.old.capacity }
 {
-    match line.get(key) {
-        Some(member) => member.serial == serial,
-        None => false,
+    if let Some(member) = line.get(key) {
+        serials.remove(member.serial);
+        line.remove(key);
     }
-}
-
-/// Whether a member under one of the keys has this serial.
-fn any_serial(line: &Line, keys: &[usize], serial: u32) -> bool
-    ensures { result ≡ list_any (at_keys (is_serial serial) line.now.items) keys.now }
-{
-    for key in keys {
-        if has_serial(line, *key, serial) {
-            return true;
-        }
-    }
-    false
-}
-
-/// Whether the serial is among these, which are searched by halves.
-fn lists(serials: &[u32], serial: u32) -> bool
-    requires { IsNonDecreasing serials.now }
-    ensures { result ≡ list_any (λ listed. listed == serial) serials.now }
-{
-    serials.binary_search(&serial).is_ok()
 }
 
 /// Takes the member under the key out, unless its serial is listed.
@@ -152,6 +141,7 @@ impl Ranking {
         Ranking {
             line: Line::new(alloc),
             by_value: Vec::new(alloc),
+            serials: Serials::new(alloc),
         }
     }
 
@@ -166,7 +156,10 @@ impl Ranking {
     pub(crate) fn storage(&self) -> usize
         ensures { result ≡ self.now.storage }
     {
-        self.line.capacity().min(self.by_value.capacity())
+        self.line
+            .capacity()
+            .min(self.by_value.capacity())
+            .min(self.serials.capacity())
     }
 
     /// Makes room for so many more members. After an error the members are as before.
@@ -182,6 +175,9 @@ impl Ranking {
             return Err(NoMemory);
         }
         if self.by_value.reserve(additional).is_err() {
+            return Err(NoMemory);
+        }
+        if self.serials.make_room(members, additional).is_err() {
             return Err(NoMemory);
         }
         Ok(())
@@ -207,6 +203,7 @@ impl Ranking {
         let key = self.line.push(member);
         // There is room, so it succeeds.
         let _ = self.by_value.insert(place, key);
+        self.serials.add(member.serial);
     }
 
     /// Drops the first member, if there is one.
@@ -218,7 +215,7 @@ impl Ranking {
             if let Some(member) = self.line.get(key) {
                 let place = count_lesser(&self.line, &self.by_value, &member.value);
                 self.by_value.remove(place);
-                self.line.remove(key);
+                take_out(&mut self.line, &mut self.serials, key);
             }
         }
     }
@@ -229,7 +226,7 @@ impl Ranking {
         ensures storage { self.new.storage ≡ self.old.storage }
     {
         if let Some(key) = self.by_value.pop() {
-            self.line.remove(key);
+            take_out(&mut self.line, &mut self.serials, key);
         }
     }
 
@@ -247,7 +244,7 @@ impl Ranking {
     pub(crate) fn holds(&self, serial: u32) -> bool
         ensures { result ≡ holds self.now.members serial }
     {
-        any_serial(&self.line, &self.by_value, serial)
+        self.serials.holds(serial)
     }
 
     /// The members in the pool's order.
@@ -265,5 +262,6 @@ impl Ranking {
     {
         keep_all_listed(&mut self.line, &self.by_value, serials);
         keep_held(&mut self.by_value, &self.line);
+        self.serials.retain(serials);
     }
 }

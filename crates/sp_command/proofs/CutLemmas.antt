@@ -2,7 +2,7 @@
 use Rattle.std.proofs.Common.{◌≡◌, ℕ, zero, suc, ◌+◌, ◌<◌, true, false, eqb, List, [], ◌∷◌, length, get_or, take, drop, Some, None, ap, ◌∙◌, arith}
 use Rattle.std.proofs.lemmas.Bool.{cond-true, cond-false}
 use Rattle.std.proofs.lemmas.List.{drop_more}
-use Rattle.sp_command.specs.Keywords.{Word}
+use Rattle.sp_command_words.specs.Keywords.{Word}
 use Rattle.sp_command.specs.Filters.{cut_last, longer, is_colon}
 
 pub no_cut_here : (text : List ℕ) (i : ℕ) → i < length text → eqb (get_or text i 0) 58 ≡ false → cut_last (drop (i + 1) text) ≡ None → cut_last (drop i text) ≡ None

@@ -2,13 +2,13 @@
 use Rattle.std.proofs.Common.{◌≡◌, ◌↔◌, Bool, true, false, List, [], ◌∷◌, Option, Some, None, refl, sym, ap, ◌∙◌}
 use Rattle.std.specs.Prelude.{if◌then◌else◌}
 use Rattle.sp_decimal.specs.DecimalFraction.{DecimalFraction}
-use Rattle.sp_command.specs.declared.keywords.Symbol.{Symbol}
-use Rattle.sp_command.specs.declared.keywords.Symbol.TheVariants.{Plus, Minus, AtMost}
+use Rattle.sp_command_words.specs.declared.keywords.Symbol.{Symbol}
+use Rattle.sp_command_words.specs.declared.keywords.Symbol.TheVariants.{Plus, Minus, AtMost}
 use Rattle.sp_command.specs.declared.places.Place.{Place}
 use Rattle.sp_command.specs.declared.places.Place.TheVariants.{First, Next, Signed, Counted}
 use Rattle.sp_command.specs.declared.places.Step.{Step}
 use Rattle.sp_command.specs.declared.places.Step.TheVariants.{Bad, Ends, Goes, Names}
-use Rattle.sp_command.specs.Keywords.{Word, symbol_of}
+use Rattle.sp_command_words.specs.Keywords.{Word, symbol_of}
 use Rattle.sp_command.specs.Values.{exact_of}
 use Rattle.sp_command.specs.Filters.{SumTerm, Sum, is_number, begins_with_sign, coefficient_of, one, signed, counted as counted_step, counted_or_named, step_of, onto, goes_on, sum_from}
 use Rattle.sp_command.specs.Sums.{IsSign, IsVariable, IsCoefficient, BeginsWithTerm, GoesOnWithTerms, BeginsWithSum, named, counted, ends, more, with_sign, without_sign}

@@ -7,14 +7,14 @@ use Rattle.sp_pool.specs.declared.members.Rule.TheVariants.{Fifo, Worst}
 use Rattle.sp_command.specs.declared.commands.Command.{Command}
 use Rattle.sp_command.specs.declared.commands.Setting.{Setting}
 use Rattle.sp_command.specs.declared.commands.Setting.TheVariants.{AbsGap, RelGap, Capacity, Intensity, Replace, Populate as PopulateLimit, Nodes}
-use Rattle.sp_command.specs.declared.commands.Shown.{Shown}
-use Rattle.sp_command.specs.declared.keywords.Group.{Group}
-use Rattle.sp_command.specs.declared.keywords.Group.TheVariants.{Pool, Limits}
-use Rattle.sp_command.specs.declared.keywords.PoolKey.{PoolKey}
-use Rattle.sp_command.specs.declared.keywords.PoolKey.TheVariants.{AbsGap as AbsGapKey, RelGap as RelGapKey, Capacity as CapacityKey, Intensity as IntensityKey, Replace as ReplaceKey}
-use Rattle.sp_command.specs.declared.keywords.LimitKey.{LimitKey}
-use Rattle.sp_command.specs.declared.keywords.LimitKey.TheVariants.{Populate as PopulateKey, Nodes as NodesKey}
-use Rattle.sp_command.specs.Keywords.{Word, is_mip, group_of, pool_key_of, limit_key_of, shown_of, is_tree}
+use Rattle.sp_command_words.specs.declared.keywords.Shown.{Shown}
+use Rattle.sp_command_words.specs.declared.keywords.Group.{Group}
+use Rattle.sp_command_words.specs.declared.keywords.Group.TheVariants.{Pool, Limits}
+use Rattle.sp_command_words.specs.declared.keywords.PoolKey.{PoolKey}
+use Rattle.sp_command_words.specs.declared.keywords.PoolKey.TheVariants.{AbsGap as AbsGapKey, RelGap as RelGapKey, Capacity as CapacityKey, Intensity as IntensityKey, Replace as ReplaceKey}
+use Rattle.sp_command_words.specs.declared.keywords.LimitKey.{LimitKey}
+use Rattle.sp_command_words.specs.declared.keywords.LimitKey.TheVariants.{Populate as PopulateKey, Nodes as NodesKey}
+use Rattle.sp_command_words.specs.Keywords.{Word, is_mip, group_of, pool_key_of, limit_key_of, shown_of, is_tree}
 use Rattle.sp_command.specs.Values.{whole, gap_of}
 
 -- the greatest value of most limits

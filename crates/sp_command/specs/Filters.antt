@@ -8,13 +8,13 @@ use Rattle.sp_decimal.specs.declared.numerals.NumeralFault.{NumeralFault}
 use Rattle.sp_decimal.specs.declared.numerals.NumeralFault.TheVariants.{NotNumeral, Wide}
 use Rattle.sp_command.specs.declared.commands.Command.{Command}
 use Rattle.sp_command.specs.declared.commands.Command.TheVariants.{FilterRange, FilterDiversity, FilterDelete}
-use Rattle.sp_command.specs.declared.keywords.Symbol.{Symbol}
-use Rattle.sp_command.specs.declared.keywords.Symbol.TheVariants.{Plus, Minus, AtMost}
+use Rattle.sp_command_words.specs.declared.keywords.Symbol.{Symbol}
+use Rattle.sp_command_words.specs.declared.keywords.Symbol.TheVariants.{Plus, Minus, AtMost}
 use Rattle.sp_command.specs.declared.places.Place.{Place}
 use Rattle.sp_command.specs.declared.places.Place.TheVariants.{First, Next, Signed, Counted}
 use Rattle.sp_command.specs.declared.places.Step.{Step}
 use Rattle.sp_command.specs.declared.places.Step.TheVariants.{Bad, Ends, Goes, Names}
-use Rattle.sp_command.specs.Keywords.{Word, symbol_of}
+use Rattle.sp_command_words.specs.Keywords.{Word, symbol_of}
 use Rattle.sp_command.specs.Values.{whole, lower_of, upper_of, exact_of}
 use Rattle.sp_command.specs.Commands.{only}
 

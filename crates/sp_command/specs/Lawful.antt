@@ -5,7 +5,7 @@ use Rattle.sp_command.specs.declared.commands.Command.{Command}
 use Rattle.sp_command.specs.declared.commands.Command.TheVariants.{Read, Optimize, Populate, NBest, Set, FilterRange, FilterDiversity, FilterDelete, Display, WriteTree, Quit, Blank}
 use Rattle.sp_command.specs.declared.commands.Setting.{Setting}
 use Rattle.sp_command.specs.declared.commands.Setting.TheVariants.{AbsGap, RelGap, Capacity, Intensity, Replace, Populate as PopulateLimit, Nodes}
-use Rattle.sp_command.specs.Keywords.{Word}
+use Rattle.sp_command_words.specs.Keywords.{Word}
 use Rattle.sp_command.specs.Commands.{most, is_model_file}
 use Rattle.sp_command.specs.Filters.{DistanceTerm}
 

@@ -1,7 +1,6 @@
 pub mod Commands
 pub mod Filters
 pub mod InnerResults
-pub mod Keywords
 pub mod Lawful
 pub mod Lines
 pub mod Sums

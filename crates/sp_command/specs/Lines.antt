@@ -6,11 +6,11 @@ use Rattle.sp_command.specs.declared.commands.Command.{Command}
 use Rattle.sp_command.specs.declared.commands.Command.TheVariants.{Read, Optimize, Populate, NBest, Set, Display, WriteTree, Quit, Blank}
 use Rattle.sp_command.specs.declared.refusals.CommandRefusal.{CommandRefusal}
 use Rattle.sp_command.specs.declared.refusals.CommandRefusal.TheVariants.{LongLine, UnknownCommand, BadArgument, NoMemory}
-use Rattle.sp_command.specs.declared.keywords.Verb.{Verb}
-use Rattle.sp_command.specs.declared.keywords.Verb.TheVariants.{Read as ReadVerb, Optimize as OptimizeVerb, Populate as PopulateVerb, NBest as NBestVerb, Set as SetVerb, Filter as FilterVerb, Display as DisplayVerb, Write as WriteVerb, Quit as QuitVerb}
-use Rattle.sp_command.specs.declared.keywords.FilterKind.{FilterKind}
-use Rattle.sp_command.specs.declared.keywords.FilterKind.TheVariants.{Range, Diversity, Delete}
-use Rattle.sp_command.specs.Keywords.{Word, verb_of, filter_kind_of}
+use Rattle.sp_command_words.specs.declared.keywords.Verb.{Verb}
+use Rattle.sp_command_words.specs.declared.keywords.Verb.TheVariants.{Read as ReadVerb, Optimize as OptimizeVerb, Populate as PopulateVerb, NBest as NBestVerb, Set as SetVerb, Filter as FilterVerb, Display as DisplayVerb, Write as WriteVerb, Quit as QuitVerb}
+use Rattle.sp_command_words.specs.declared.keywords.FilterKind.{FilterKind}
+use Rattle.sp_command_words.specs.declared.keywords.FilterKind.TheVariants.{Range, Diversity, Delete}
+use Rattle.sp_command_words.specs.Keywords.{Word, verb_of, filter_kind_of}
 use Rattle.sp_command.specs.Commands.{only, alone, file_of, count_of, setting_of, display_of, tree_file}
 use Rattle.sp_command.specs.Filters.{range_of, diversity_of, delete_of}
 

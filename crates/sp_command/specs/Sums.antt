@@ -1,9 +1,9 @@
 -- The grammar of the sum in a range filter: one or more terms, each but the first with its sign, and then `<=`.
 use Rattle.std.specs.Prelude.{◌≡◌, Bool, true, false, List, [], ◌∷◌, Option, Some, None}
 use Rattle.sp_decimal.specs.DecimalFraction.{DecimalFraction}
-use Rattle.sp_command.specs.declared.keywords.Symbol.{Symbol}
-use Rattle.sp_command.specs.declared.keywords.Symbol.TheVariants.{Plus, Minus, AtMost}
-use Rattle.sp_command.specs.Keywords.{Word, symbol_of}
+use Rattle.sp_command_words.specs.declared.keywords.Symbol.{Symbol}
+use Rattle.sp_command_words.specs.declared.keywords.Symbol.TheVariants.{Plus, Minus, AtMost}
+use Rattle.sp_command_words.specs.Keywords.{Word, symbol_of}
 use Rattle.sp_command.specs.Values.{exact_of}
 use Rattle.sp_command.specs.Filters.{SumTerm, is_number, begins_with_sign, one, signed}
 

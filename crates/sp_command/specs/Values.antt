@@ -9,7 +9,7 @@ use Rattle.sp_decimal.specs.declared.numerals.Numeral.TheVariants.{Exact, Huge}
 use Rattle.sp_decimal.specs.declared.numerals.NumeralFault.{NumeralFault}
 use Rattle.sp_model.specs.declared.gaps.Gap.{Gap}
 use Rattle.sp_model.specs.declared.gaps.Gap.TheVariants.{Unlimited, Of}
-use Rattle.sp_command.specs.Keywords.{Word}
+use Rattle.sp_command_words.specs.Keywords.{Word}
 
 -- ---- whole numbers
 

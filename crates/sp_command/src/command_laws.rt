@@ -2,7 +2,7 @@
 
 ghost use Rattle.std.specs.Prelude.{◌≡◌, ◌↔◌, List, Some};
 ghost use Rattle.sp_command.specs.declared.places.Place.TheVariants as Place;
-ghost use Rattle.sp_command.specs.Keywords.{Word};
+ghost use Rattle.sp_command_words.specs.Keywords.{Word};
 ghost use Rattle.sp_command.specs.Filters.{SumTerm, sum_from};
 ghost use Rattle.sp_command.specs.Sums.{BeginsWithSum};
 

@@ -1,6 +1,7 @@
 //! Commands, settings, and what can be shown.
 
 use sp_base::Text;
+use sp_command_words::Shown;
 use sp_decimal::Decimal;
 use sp_model::{Gap, Items};
 use sp_pool::Rule;
@@ -28,21 +29,6 @@ pub enum Setting {
     Populate(u32),
     /// The most nodes of a tree, from 1 to 200,000.
     Nodes(u32),
-}
-
-/// What a display command shows.
-#[derive(Clone, Copy, PartialEq, Eq, Debug)]
-pub enum Shown {
-    /// The found points.
-    Found,
-    /// The members of the pool.
-    Pool,
-    /// The settings.
-    Settings,
-    /// The size of the model and of its tree.
-    Model,
-    /// The filters.
-    Filters,
 }
 
 /// A command of a session.

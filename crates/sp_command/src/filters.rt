@@ -7,19 +7,18 @@ ghost use Rattle.sp_base.specs.Fields.{fields};
 ghost use Rattle.sp_command.specs.Filters.{is_filter_name, range_of, range_named, range_above, range_sum, sum_from, diversity_of, diversity_named, diversity_above, diversity_within, delete_of, is_at_most};
 ghost use Rattle.sp_command.specs.Commands.{only};
 ghost use Rattle.sp_command.specs.Values.{upper_of};
-ghost use Rattle.sp_command.specs.Keywords.{symbol_of};
+ghost use Rattle.sp_command_words.specs.Keywords.{symbol_of};
 ghost use Rattle.sp_command.specs.InnerResults.{Gives};
 
 use crate::bounds::{lower_bound, upper_bound};
 use crate::commands::Command;
 use crate::diversity::terms;
-use crate::keywords::Symbol;
 use crate::places::Place;
 use crate::ranges::{copied, sum};
 use crate::refusals::CommandRefusal;
 use crate::settings::only_field;
-use crate::tables::Tables;
 use sp_base::next_field;
+use sp_command_words::{Symbol, Tables};
 use sp_decimal::Decimal;
 use std::alloc::Global;
 

@@ -6,16 +6,15 @@ mod command_laws;
 mod commands;
 mod diversity;
 mod filters;
-mod keywords;
 mod numbers;
 mod parsing;
 mod places;
 mod ranges;
 mod refusals;
 mod settings;
-mod tables;
 
 pub use command_laws::sums_are_read_by_their_grammar;
-pub use commands::{Command, DiversityTerm, RangeTerm, Setting, Shown};
+pub use commands::{Command, DiversityTerm, RangeTerm, Setting};
 pub use parsing::parse;
 pub use refusals::CommandRefusal;
+pub use sp_command_words::Shown;

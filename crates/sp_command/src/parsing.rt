@@ -9,12 +9,11 @@ ghost use Rattle.sp_command.specs.InnerResults.{Gives};
 
 use crate::commands::Command;
 use crate::filters::{deletion, diversity, range};
-use crate::keywords::{FilterKind, Verb};
 use crate::ranges::copied;
 use crate::refusals::CommandRefusal;
 use crate::settings::{count, is_end, is_model_name, only_field, setting, shown, tree_name};
-use crate::tables::Tables;
 use sp_base::next_field;
+use sp_command_words::{FilterKind, Tables, Verb};
 use std::alloc::Global;
 
 /// The most bytes of a line.

@@ -2,17 +2,16 @@
 
 ghost use Rattle.std.specs.Prelude.{◌≡◌, ◌∷◌, [], ◌++◌, IfOk, IfErr, OnOk, MatchResult, Some, None, List, ℕ};
 ghost use Rattle.sp_base.specs.Fields.{fields};
-ghost use Rattle.sp_command.specs.Keywords.{symbol_of};
+ghost use Rattle.sp_command_words.specs.Keywords.{symbol_of};
 ghost use Rattle.sp_command.specs.Filters.{is_number, coefficient_of, begins_with_sign, signed, counted_or_named, step_of, sum_from};
 ghost use Rattle.sp_command.specs.InnerResults.{IsBad};
 
 use crate::bounds::exact_number;
 use crate::commands::RangeTerm;
-use crate::keywords::Symbol;
 use crate::places::{Place, Step};
 use crate::refusals::CommandRefusal;
-use crate::tables::Tables;
 use sp_base::{Text, next_field};
+use sp_command_words::{Symbol, Tables};
 use sp_decimal::{Decimal, Numeral, NumeralFault};
 use sp_model::Items;
 use std::alloc::Global;

@@ -6,11 +6,10 @@ ghost use Rattle.sp_command.specs.Values.{whole};
 ghost use Rattle.sp_base.specs.Fields.{fields};
 ghost use Rattle.sp_command.specs.Commands.{only, most, is_model_file, count_of, rule_for, pool_value, limit_value, pool_setting, limit_setting, mip_setting, ends_with, tree_file, setting_of, display_of};
 
-use crate::commands::{Setting, Shown};
-use crate::keywords::{Group, LimitKey, PoolKey};
+use crate::commands::Setting;
 use crate::numbers::{gap, whole_number};
-use crate::tables::Tables;
 use sp_base::next_field;
+use sp_command_words::{Group, LimitKey, PoolKey, Shown, Tables};
 use sp_pool::Rule;
 
 /// The greatest value of most limits.

@@ -1,6 +1,6 @@
 -- The first colon from behind is the last one.
 use Rattle.std.proofs.Common.{◌≡◌, ◌+◌, ◌-◌, ◌∙◌, ap, sym, arith, eq-eqb, drop, take, Some, None, List, ℕ}
-use Rattle.sp_command.specs.Keywords.{Word}
+use Rattle.sp_command_words.specs.Keywords.{Word}
 use Rattle.sp_command.specs.Filters.{cut_last}
 use Rattle.sp_command.proofs.CutLemmas.{cut_here}
 use Rattle.sp_command.proofs.diversity.split_last.Goals as goal

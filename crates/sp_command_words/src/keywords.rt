@@ -1,62 +1,99 @@
 //! What the words of commands stand for.
 
 ghost use Rattle.std.specs.Prelude.{◌≡◌};
-ghost use Rattle.sp_command.specs.Keywords.{verb_for, group_for, pool_key_for, limit_key_for, filter_kind_for, shown_for, symbol_for};
-
-use crate::commands::Shown;
+ghost use Rattle.sp_command_words.specs.Keywords.{verb_for, group_for, pool_key_for, limit_key_for, filter_kind_for, shown_for, symbol_for};
 
 /// The first word of a command.
 #[derive(Clone, Copy, PartialEq, Eq, Debug)]
-pub(crate) enum Verb {
+pub enum Verb {
+    /// Reads a model file.
     Read,
+    /// Finds the optimum.
     Optimize,
+    /// Lists the points within the gaps.
     Populate,
+    /// Lists the best points.
     NBest,
+    /// Changes a setting.
     Set,
+    /// Adds or removes a filter.
     Filter,
+    /// Shows something.
     Display,
+    /// Writes the tree.
     Write,
+    /// Ends the session.
     Quit,
 }
 
 /// The settings that stand together.
 #[derive(Clone, Copy, PartialEq, Eq, Debug)]
-pub(crate) enum Group {
+pub enum Group {
+    /// Those of the pool.
     Pool,
+    /// The limits.
     Limits,
 }
 
 /// A setting of the pool.
 #[derive(Clone, Copy, PartialEq, Eq, Debug)]
-pub(crate) enum PoolKey {
+pub enum PoolKey {
+    /// The absolute gap.
     AbsGap,
+    /// The relative gap.
     RelGap,
+    /// The greatest number of members.
     Capacity,
+    /// The intensity.
     Intensity,
+    /// What a full pool drops.
     Replace,
 }
 
 /// A limit.
 #[derive(Clone, Copy, PartialEq, Eq, Debug)]
-pub(crate) enum LimitKey {
+pub enum LimitKey {
+    /// The most points that one populate finds.
     Populate,
+    /// The most nodes of a tree.
     Nodes,
 }
 
 /// A command on filters.
 #[derive(Clone, Copy, PartialEq, Eq, Debug)]
-pub(crate) enum FilterKind {
+pub enum FilterKind {
+    /// A filter on a sum is added.
     Range,
+    /// A filter on distances is added.
     Diversity,
+    /// A filter is removed.
     Delete,
 }
 
 /// A word of an expression that is no name.
 #[derive(Clone, Copy, PartialEq, Eq, Debug)]
-pub(crate) enum Symbol {
+pub enum Symbol {
+    /// `+`
     Plus,
+    /// `-`
     Minus,
+    /// `<=`
     AtMost,
+}
+
+/// What a display command shows.
+#[derive(Clone, Copy, PartialEq, Eq, Debug)]
+pub enum Shown {
+    /// The found points.
+    Found,
+    /// The members of the pool.
+    Pool,
+    /// The settings.
+    Settings,
+    /// The size of the model and of its tree.
+    Model,
+    /// The filters.
+    Filters,
 }
 
 pub(crate) fn verb_for(code: u16) -> Option<Verb>

@@ -5,20 +5,20 @@ use Rattle.sp_words.specs.Spellings.{spellings}
 use Rattle.sp_words.specs.Rows.{Row, code_of}
 use Rattle.sp_words.specs.Words.{rows_in}
 use Rattle.sp_words.specs.declared.keywords.Words.{Words}
-use Rattle.sp_command.specs.declared.commands.Shown.{Shown}
-use Rattle.sp_command.specs.declared.commands.Shown.TheVariants.{Found, Pool as ShownPool, Settings, Model, Filters}
-use Rattle.sp_command.specs.declared.keywords.Verb.{Verb}
-use Rattle.sp_command.specs.declared.keywords.Verb.TheVariants.{Read, Optimize, Populate, NBest, Set, Filter, Display, Write, Quit}
-use Rattle.sp_command.specs.declared.keywords.Group.{Group}
-use Rattle.sp_command.specs.declared.keywords.Group.TheVariants.{Pool, Limits}
-use Rattle.sp_command.specs.declared.keywords.PoolKey.{PoolKey}
-use Rattle.sp_command.specs.declared.keywords.PoolKey.TheVariants.{AbsGap, RelGap, Capacity, Intensity, Replace}
-use Rattle.sp_command.specs.declared.keywords.LimitKey.{LimitKey}
-use Rattle.sp_command.specs.declared.keywords.LimitKey.TheVariants.{Populate as PopulateLimit, Nodes}
-use Rattle.sp_command.specs.declared.keywords.FilterKind.{FilterKind}
-use Rattle.sp_command.specs.declared.keywords.FilterKind.TheVariants.{Range, Diversity, Delete}
-use Rattle.sp_command.specs.declared.keywords.Symbol.{Symbol}
-use Rattle.sp_command.specs.declared.keywords.Symbol.TheVariants.{Plus, Minus, AtMost}
+use Rattle.sp_command_words.specs.declared.keywords.Shown.{Shown}
+use Rattle.sp_command_words.specs.declared.keywords.Shown.TheVariants.{Found, Pool as ShownPool, Settings, Model, Filters}
+use Rattle.sp_command_words.specs.declared.keywords.Verb.{Verb}
+use Rattle.sp_command_words.specs.declared.keywords.Verb.TheVariants.{Read, Optimize, Populate, NBest, Set, Filter, Display, Write, Quit}
+use Rattle.sp_command_words.specs.declared.keywords.Group.{Group}
+use Rattle.sp_command_words.specs.declared.keywords.Group.TheVariants.{Pool, Limits}
+use Rattle.sp_command_words.specs.declared.keywords.PoolKey.{PoolKey}
+use Rattle.sp_command_words.specs.declared.keywords.PoolKey.TheVariants.{AbsGap, RelGap, Capacity, Intensity, Replace}
+use Rattle.sp_command_words.specs.declared.keywords.LimitKey.{LimitKey}
+use Rattle.sp_command_words.specs.declared.keywords.LimitKey.TheVariants.{Populate as PopulateLimit, Nodes}
+use Rattle.sp_command_words.specs.declared.keywords.FilterKind.{FilterKind}
+use Rattle.sp_command_words.specs.declared.keywords.FilterKind.TheVariants.{Range, Diversity, Delete}
+use Rattle.sp_command_words.specs.declared.keywords.Symbol.{Symbol}
+use Rattle.sp_command_words.specs.declared.keywords.Symbol.TheVariants.{Plus, Minus, AtMost}
 
 -- a word of a line
 abbrev pub Word : Type 0

@@ -1,18 +1,17 @@
 //! The tables of the words of commands.
 
 ghost use Rattle.std.specs.Prelude.{◌≡◌, IsTrue};
-ghost use Rattle.sp_command.specs.Keywords.{HasVerbs, HasMip, HasGroups, HasPoolKeys, HasLimitKeys, HasFilterKinds, HasShown, HasTree, HasSymbols, verb_of, is_mip, group_of, pool_key_of, limit_key_of, filter_kind_of, shown_of, is_tree, symbol_of};
+ghost use Rattle.sp_command_words.specs.Keywords.{HasVerbs, HasMip, HasGroups, HasPoolKeys, HasLimitKeys, HasFilterKinds, HasShown, HasTree, HasSymbols, verb_of, is_mip, group_of, pool_key_of, limit_key_of, filter_kind_of, shown_of, is_tree, symbol_of};
 
-use crate::commands::Shown;
 use crate::keywords::{
-    FilterKind, Group, LimitKey, PoolKey, Symbol, Verb, filter_kind_for, group_for, limit_key_for,
-    pool_key_for, shown_for, symbol_for, verb_for,
+    FilterKind, Group, LimitKey, PoolKey, Shown, Symbol, Verb, filter_kind_for, group_for,
+    limit_key_for, pool_key_for, shown_for, symbol_for, verb_for,
 };
 use sp_words::Words;
 
 /// The tables of the words of commands. The case of letters is of no account. They take no memory.
 #[derive(Clone, Copy, Debug)]
-pub(crate) struct Tables {
+pub struct Tables {
     verbs: Words<9>,
     mip: Words<1>,
     groups: Words<2>,
@@ -93,7 +92,7 @@ fn symbol_table() -> Words<3>
 
 impl Tables {
     /// The tables, which are made with no test as the program runs.
-    pub(crate) fn new() -> Tables {
+    pub fn new() -> Tables {
         Tables {
             verbs: verb_table(),
             mip: mip_table(),
@@ -107,8 +106,9 @@ impl Tables {
         }
     }
 
+    /// The command that the word begins, whatever the case of its letters.
     #[tactic(auto, unfolding(crate::specs::Keywords::verb_of))]
-    pub(crate) fn verb_of(&self, word: &[u8]) -> Option<Verb>
+    pub fn verb_of(&self, word: &[u8]) -> Option<Verb>
         ensures { result ≡ verb_of word.now }
     {
         match self.verbs.find(word) {
@@ -117,15 +117,17 @@ impl Tables {
         }
     }
 
+    /// Whether the word is `mip`, whatever the case.
     #[tactic(auto, unfolding(crate::specs::Keywords::is_mip))]
-    pub(crate) fn is_mip(&self, word: &[u8]) -> bool
+    pub fn is_mip(&self, word: &[u8]) -> bool
         ensures { result ≡ is_mip word.now }
     {
         self.mip.find(word).is_some()
     }
 
+    /// The group of settings that the word names, whatever the case.
     #[tactic(auto, unfolding(crate::specs::Keywords::group_of))]
-    pub(crate) fn group_of(&self, word: &[u8]) -> Option<Group>
+    pub fn group_of(&self, word: &[u8]) -> Option<Group>
         ensures { result ≡ group_of word.now }
     {
         match self.groups.find(word) {
@@ -134,8 +136,9 @@ impl Tables {
         }
     }
 
+    /// The setting of the pool that the word names, whatever the case.
     #[tactic(auto, unfolding(crate::specs::Keywords::pool_key_of))]
-    pub(crate) fn pool_key_of(&self, word: &[u8]) -> Option<PoolKey>
+    pub fn pool_key_of(&self, word: &[u8]) -> Option<PoolKey>
         ensures { result ≡ pool_key_of word.now }
     {
         match self.pool_keys.find(word) {
@@ -144,8 +147,9 @@ impl Tables {
         }
     }
 
+    /// The limit that the word names, whatever the case.
     #[tactic(auto, unfolding(crate::specs::Keywords::limit_key_of))]
-    pub(crate) fn limit_key_of(&self, word: &[u8]) -> Option<LimitKey>
+    pub fn limit_key_of(&self, word: &[u8]) -> Option<LimitKey>
         ensures { result ≡ limit_key_of word.now }
     {
         match self.limit_keys.find(word) {
@@ -154,8 +158,9 @@ impl Tables {
         }
     }
 
+    /// What the word does with filters, whatever the case.
     #[tactic(auto, unfolding(crate::specs::Keywords::filter_kind_of))]
-    pub(crate) fn filter_kind_of(&self, word: &[u8]) -> Option<FilterKind>
+    pub fn filter_kind_of(&self, word: &[u8]) -> Option<FilterKind>
         ensures { result ≡ filter_kind_of word.now }
     {
         match self.filter_kinds.find(word) {
@@ -164,8 +169,9 @@ impl Tables {
         }
     }
 
+    /// What the word shows, whatever the case.
     #[tactic(auto, unfolding(crate::specs::Keywords::shown_of))]
-    pub(crate) fn shown_of(&self, word: &[u8]) -> Option<Shown>
+    pub fn shown_of(&self, word: &[u8]) -> Option<Shown>
         ensures { result ≡ shown_of word.now }
     {
         match self.shown.find(word) {
@@ -174,15 +180,17 @@ impl Tables {
         }
     }
 
+    /// Whether the word is `tree`, whatever the case.
     #[tactic(auto, unfolding(crate::specs::Keywords::is_tree))]
-    pub(crate) fn is_tree(&self, word: &[u8]) -> bool
+    pub fn is_tree(&self, word: &[u8]) -> bool
         ensures { result ≡ is_tree word.now }
     {
         self.tree.find(word).is_some()
     }
 
+    /// The sign or comparison that the word is.
     #[tactic(auto, unfolding(crate::specs::Keywords::symbol_of))]
-    pub(crate) fn symbol_of(&self, word: &[u8]) -> Option<Symbol>
+    pub fn symbol_of(&self, word: &[u8]) -> Option<Symbol>
         ensures { result ≡ symbol_of word.now }
     {
         match self.symbols.find(word) {

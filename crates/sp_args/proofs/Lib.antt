@@ -1,0 +1,4 @@
+pub mod ClapLemmas
+pub mod DashLemmas
+pub mod OptionLemmas
+pub mod GivesLemmas

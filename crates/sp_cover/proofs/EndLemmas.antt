@@ -12,12 +12,16 @@ use Rattle.sp_model.specs.Sums.{Term}
 use Rattle.sp_list.specs.declared.found.Found.{Found}
 use Rattle.sp_activity.specs.Reasons.{Holds}
 use Rattle.sp_activity.specs.declared.reasons.Reason.{Reason}
-use Rattle.sp_dual.specs.Lists.{MultiplierList}
+use Rattle.sp_dual.specs.Lists.{IsWellFormed, MultiplierList}
+use Rattle.sp_bound.specs.Bounds.{KeepsRows, bound_of}
+use Rattle.sp_sums.specs.Ranges.{IsInside}
+use Rattle.sp_cover.proofs.BoxLemmas.{held-filled, inside-from}
 use Rattle.sp_filter.specs.declared.holding.Held.{Held}
 use Rattle.sp_filter.specs.declared.kinds.Filter.{Filter}
 use Rattle.sp_filter.specs.Filters.{is_passed}
 use Rattle.sp_filter.specs.Held.{Closes, FilterList, Passes, filter_of}
 use Rattle.sp_sums.specs.Extremes.{IsSpanned}
+use Rattle.sp_tree.specs.declared.nodes.Bound.{Bound}
 use Rattle.sp_tree.specs.declared.nodes.Node.{Node}
 use Rattle.sp_tree.specs.declared.nodes.Kind.{Kind}
 use Rattle.sp_tree.specs.declared.nodes.Kind.TheVariants.{Split, Open, Dead, Bounded, Screened, Point}
@@ -25,8 +29,8 @@ use Rattle.sp_tree.specs.Splits.{box_at}
 use Rattle.sp_tree.specs.Tables.{list_at}
 use Rattle.sp_tree.specs.Trees.{TreeOf, node_at, open_node, split_of, splits, is_held, new_tree, IsComplete, IsGrown, IsLicensed}
 use Rattle.sp_tree.specs.Laws.{IsPartition, LiesInLeaf}
-use Rattle.sp_cover.specs.Numbers.{least_objective, number_by, number_of}
-use Rattle.sp_cover.specs.Cover.{AreScreened, Claim, IfScreened, IsBest, IsBestWithin, IsEarlyKind, IsFound, IsLateKind, IsLeastFound, IsOpenAt, IsSearch, IsShut, NodeFits, SearchOf, found_of, is_any_point, is_any_point_of, is_point, is_point_of, needs_mark, no_found}
+use Rattle.sp_cover.specs.Numbers.{least_objective, number_by}
+use Rattle.sp_cover.specs.Cover.{AreScreened, Claim, IfScreened, IsBest, IsBestWithin, IsBoundOf, IsEarlyKind, IsFound, IsLateKind, IsLeastFound, IsOpenAt, IsSearch, IsShut, NodeFits, SearchOf, found_of, is_any_point, is_any_point_of, is_point, is_point_of, needs_mark, no_found}
 use Rattle.sp_cover.specs.Moves.{ended, new_search}
 use Rattle.sp_cover.specs.Listing.{AreFound, IsListed, WasFound}
 use Rattle.sp_cover.proofs.EachLemmas.{count-cons, count-some}
@@ -43,6 +47,7 @@ pub record Sound (m : ModelParts) : Type 0 where
   pub inside : (x : List ℤ) → Feasible m x → IsWithin (root_of m) x
   pub dead : (b : Bounds) (r : Reason) (x : List ℤ) → Holds m b r → IsWithin b x → ¬ Feasible m x
   pub spanned : (b : Bounds) (ts : List Term) → IsSpanned b ts
+  pub bounded : (b : Bounds) (list : MultiplierList) (x : List ℤ) (v : ℤ) → IsWellFormed list → IsInside (root_of m) b → KeepsRows m b x → bound_of m b list ≡ Some v → v ≤ℤ objective m x
   pub divides : Divides
 
 -- ---- numbers
@@ -50,15 +55,15 @@ pub record Sound (m : ModelParts) : Type 0 where
 some-same : (a b : ℤ) → Some a ≡ Some b → a ≡ b
 some-same a b h = cc
 
-number-by-sound : (m : ModelParts) → Sound m → (b : Bounds) (y : List (ℕ × ℤ)) (v : ℤ) (x : List ℤ) → number_by m b y ≡ Some v → IsWithin b x → v ≤ℤ objective m x
-number-by-sound m l b [] v x h held =
+number-by-sound : (m : ModelParts) → Sound m → (b : Bounds) (list : MultiplierList) (y : List (ℕ × ℤ)) (v : ℤ) (x : List ℤ) → IsWellFormed list → IsInside (root_of m) b → number_by m b list y ≡ Some v → IsWithin b x → Feasible m x → v ≤ℤ objective m x
+number-by-sound m l b list [] v x formed inside h held feasible =
     let low = (l.spanned b m.cost).least x held in
     let same = some-same (least_objective m b) v h in
     omega (arith, ints, low, same)
-number-by-sound m l b (e ∷ es) v x h held = absurd (none-some v h)
+number-by-sound m l b list (e ∷ es) v x formed inside h held feasible = l.bounded b list x v formed inside (record { within = held; rows = feasible.rows }) h
 
-number-sound : (m : ModelParts) → Sound m → (b : Bounds) (list : MultiplierList) (v : ℤ) (x : List ℤ) → number_of m b list ≡ Some v → IsWithin b x → Feasible m x → v ≤ℤ objective m x
-number-sound m l b list v x h held feasible = number-by-sound m l b list.y v x h held
+number-sound : (m : ModelParts) → Sound m → (b : Bounds) (lists : List MultiplierList) (bound : Bound) (x : List ℤ) → IsInside (root_of m) b → IsBoundOf m lists b bound → IsWithin b x → Feasible m x → bound.least ≤ℤ objective m x
+number-sound m l b lists bound x inside h held feasible = number-by-sound m l b (list_at lists bound.by) (list_at lists bound.by).y bound.least x h.formed inside h.number held feasible
 
 -- ---- a box of one point
 
@@ -79,13 +84,14 @@ one-point l b x y one h k =
 boxes-nodes : (t : TreeOf) → IsGrown t → length t.boxes ≡ length t.nodes
 boxes-nodes t grown = sym grown.tree.sized ∙ length-splits t.nodes
 
-pub record HoldingLeaf (t : TreeOf) (x : List ℤ) : Type 0 where
+pub record HoldingLeaf (root : Bounds) (t : TreeOf) (x : List ℤ) : Type 0 where
   pub leaf : ℕ
   pub known : leaf < length t.nodes
   pub is_leaf : split_of (node_at t.nodes leaf).kind ≡ None
   pub held : IsWithin (box_at t.boxes leaf) x
+  pub inside : IsInside root (box_at t.boxes leaf)
 
-pub leaf-of : (m : ModelParts) → Sound m → (s : SearchOf) → IsSearch m s → (x : List ℤ) → Feasible m x → HoldingLeaf s.tree x
+pub leaf-of : (m : ModelParts) → Sound m → (s : SearchOf) → IsSearch m s → (x : List ℤ) → Feasible m x → HoldingLeaf (root_of m) s.tree x
 leaf-of m l s c x feasible =
     let parts = l.divides.partition s.tree c.grown in
     let r = parts.covers x (rw c.root (l.inside x feasible)) in
@@ -93,7 +99,10 @@ leaf-of m l s c x feasible =
     let boxes-long = boxes-nodes s.tree c.grown in
     let k = lies.known in
     let k' : r.0 < length s.tree.nodes = omega (arith, k, boxes-long) in
-    record { leaf = r.0; known = k'; is_leaf = sym (splits-at s.tree.nodes r.0 k') ∙ lies.leaf; held = lies.within }
+    let here = box_at s.tree.boxes r.0 in
+    let inside = inside-from (root_of m) here (held-filled here x lies.within)
+    (λ y w. rw c.root at (parts.inside y r.0 (record { known = k; leaf = lies.leaf; within = w }))) in
+    record { leaf = r.0; known = k'; is_leaf = sym (splits-at s.tree.nodes r.0 k') ∙ lies.leaf; held = lies.within; inside = inside }
 
 -- ---- where no leaf is open, in phase one
 
@@ -107,15 +116,15 @@ best-within found (Some b) serial is from known = is.least (serial - 1) (omega (
 
 -- a feasible point of a leaf that isn't open has an objective that isn't below the best
 leaf-best : (m : ModelParts) → Sound m → (lists : List MultiplierList) (found : List Found) (best : Option ℤ) (b : Bounds) (kind : Kind) (x : List ℤ)
-    → IsBest found best → Feasible m x → IsWithin b x → split_of kind ≡ None → kind ≢ Open
+    → IsBest found best → Feasible m x → IsInside (root_of m) b → IsWithin b x → split_of kind ≡ None → kind ≢ Open
     → Claim m lists found b kind → IsEarlyKind best kind → IsBestWithin best (objective m x)
-leaf-best m l lists found best b (Split var at left right) x is feasible held leaf shut claim early = absurd (grind arith)
-leaf-best m l lists found best b Open x is feasible held leaf shut claim early = absurd (shut refl)
-leaf-best m l lists found best b (Dead reason) x is feasible held leaf shut claim early = absurd (l.dead b reason x claim held feasible)
-leaf-best m l lists found best b (Bounded bound) x is feasible held leaf shut claim early =
-    within-least best bound.least (objective m x) early (number-sound m l b (list_at lists bound.by) bound.least x claim.number held feasible)
-leaf-best m l lists found best b (Screened f) x is feasible held leaf shut claim early = absurd early
-leaf-best m l lists found best b (Point serial) x is feasible held leaf shut claim early =
+leaf-best m l lists found best b (Split var at left right) x is feasible inside held leaf shut claim early = absurd (grind arith)
+leaf-best m l lists found best b Open x is feasible inside held leaf shut claim early = absurd (shut refl)
+leaf-best m l lists found best b (Dead reason) x is feasible inside held leaf shut claim early = absurd (l.dead b reason x claim held feasible)
+leaf-best m l lists found best b (Bounded bound) x is feasible inside held leaf shut claim early =
+    within-least best bound.least (objective m x) early (number-sound m l b lists bound x inside claim held feasible)
+leaf-best m l lists found best b (Screened f) x is feasible inside held leaf shut claim early = absurd early
+leaf-best m l lists found best b (Point serial) x is feasible inside held leaf shut claim early =
     let same = one-point l.divides b x (found_of found serial).point claim.one held claim.held in
     rw (same, claim.value) (best-within found best serial is claim.from claim.known)
 
@@ -241,7 +250,7 @@ ending-now m l s c none first =
       optimal = λ e. optimal-from m s.found s.best (found-are l.divides m s c) c.best (λ x feasible.
           let r = leaf-of m l s c x feasible in
           let h = c.nodes r.leaf r.known in
-          leaf-best m l s.tree.lists s.found s.best (box_at s.tree.boxes r.leaf) (node_at s.tree.nodes r.leaf).kind x c.best feasible r.held r.is_leaf (shut r.leaf r.known) h.claim (h.early first).kind);
+          leaf-best m l s.tree.lists s.found s.best (box_at s.tree.boxes r.leaf) (node_at s.tree.nodes r.leaf).kind x c.best feasible r.inside r.held r.is_leaf (shut r.leaf r.known) h.claim (h.early first).kind);
       marked = λ e i i-in needs. absurd (early-needs s.best (node_at s.tree.nodes i).kind (shut i i-in) ((c.nodes i i-in).early first).kind needs);
     }
 
@@ -289,20 +298,20 @@ closes-at : (o : Option Filter) (filter : Filter) (b : Bounds) → o ≡ Some fi
 closes-at o filter b is h = rw is at h
 
 leaf-listed : (m : ModelParts) → Sound m → (fs : FilterList) (lists : List MultiplierList) (found : List Found) (b : Bounds) (kind : Kind) (cut : ℤ) (x : List ℤ)
-    → IsListed m cut fs x → IsWithin b x → split_of kind ≡ None → IsLicensed cut (is_held fs) kind → Claim m lists found b kind → IfScreened fs b kind → WasFound m found x
-leaf-listed m l fs lists found b (Split var at left right) cut x listed held leaf licensed claim screen = absurd (grind arith)
-leaf-listed m l fs lists found b Open cut x listed held leaf licensed claim screen = absurd licensed
-leaf-listed m l fs lists found b (Dead reason) cut x listed held leaf licensed claim screen = absurd (l.dead b reason x claim held listed.feasible)
-leaf-listed m l fs lists found b (Bounded bound) cut x listed held leaf licensed claim screen =
-    let low : bound.least ≤ℤ objective m x = number-sound m l b (list_at lists bound.by) bound.least x claim.number held listed.feasible in
+    → IsListed m cut fs x → IsInside (root_of m) b → IsWithin b x → split_of kind ≡ None → IsLicensed cut (is_held fs) kind → Claim m lists found b kind → IfScreened fs b kind → WasFound m found x
+leaf-listed m l fs lists found b (Split var at left right) cut x listed inside held leaf licensed claim screen = absurd (grind arith)
+leaf-listed m l fs lists found b Open cut x listed inside held leaf licensed claim screen = absurd licensed
+leaf-listed m l fs lists found b (Dead reason) cut x listed inside held leaf licensed claim screen = absurd (l.dead b reason x claim held listed.feasible)
+leaf-listed m l fs lists found b (Bounded bound) cut x listed inside held leaf licensed claim screen =
+    let low : bound.least ≤ℤ objective m x = number-sound m l b lists bound x inside claim held listed.feasible in
     let near : objective m x ≤ℤ cut = listed.near in
     let far : cut <ℤ bound.least = licensed in
     absurd (omega (arith, ints, low, near, far))
-leaf-listed m l fs lists found b (Screened f) cut x listed held leaf licensed claim screen =
+leaf-listed m l fs lists found b (Screened f) cut x listed inside held leaf licensed claim screen =
     let here = held-some fs f licensed in
     let closes = closes-at (filter_of fs.held f) here.0 b here.1 screen.closes in
     absurd (false≢true (sym (closes.sound refl x held) ∙ passes-one fs.held f here.0 x here.1 listed.passes))
-leaf-listed m l fs lists found b (Point serial) cut x listed held leaf licensed claim screen =
+leaf-listed m l fs lists found b (Point serial) cut x listed inside held leaf licensed claim screen =
     let same = one-point l.divides b x (found_of found serial).point claim.one held claim.held in
     let from = claim.from in
     let known = claim.known in
@@ -311,7 +320,7 @@ leaf-listed m l fs lists found b (Point serial) cut x listed held leaf licensed 
 pub listed-found : (m : ModelParts) → Sound m → (fs : FilterList) (s : SearchOf) (cut : ℤ) (x : List ℤ) → IsSearch m s → AreScreened fs s.tree → IsComplete cut (is_held fs) s.tree.nodes → IsListed m cut fs x → WasFound m s.found x
 listed-found m l fs s cut x c screens all listed =
     let r = leaf-of m l s c x listed.feasible in
-    leaf-listed m l fs s.tree.lists s.found (box_at s.tree.boxes r.leaf) (node_at s.tree.nodes r.leaf).kind cut x listed r.held r.is_leaf (all r.leaf r.known r.is_leaf) (c.nodes r.leaf r.known).claim (screens.each r.leaf r.known)
+    leaf-listed m l fs s.tree.lists s.found (box_at s.tree.boxes r.leaf) (node_at s.tree.nodes r.leaf).kind cut x listed r.inside r.held r.is_leaf (all r.leaf r.known r.is_leaf) (c.nodes r.leaf r.known).claim (screens.each r.leaf r.known)
 
 -- ---- the start
 

@@ -1,3 +1,4 @@
+pub mod BoxLemmas
 pub mod EachLemmas
 pub mod CloseLemmas
 pub mod FindLemmas

@@ -128,7 +128,8 @@ bound-kept : (m : ModelParts) (old more : List MultiplierList) (b : Bounds) (bou
 bound-kept m old more b bound h =
     let known = h.known in
     let long = length-append old more in
-    record { known = omega (arith, known, long); number = rw (get_or_append_left old more zero_list bound.by known) h.number }
+    let same = get_or_append_left old more zero_list bound.by known in
+    record { known = omega (arith, known, long); formed = rw same h.formed; number = rw same h.number }
 
 claim-kept : (m : ModelParts) (old more : List MultiplierList) (found : List Found) (b : Bounds) (kind : Kind) → Claim m old found b kind → Claim m (old ++ more) found b kind
 claim-kept m old more found b (Split var at left right) h = h

@@ -6,7 +6,7 @@ use Rattle.sp_model.specs.Models.{Feasible, IsOptimum, objective, root_of}
 use Rattle.sp_list.specs.declared.found.Found.{Found}
 use Rattle.sp_activity.specs.Order.{IsOpen as IsUnreasoned}
 use Rattle.sp_activity.specs.Reasons.{Holds}
-use Rattle.sp_dual.specs.Lists.{MultiplierList}
+use Rattle.sp_dual.specs.Lists.{IsWellFormed, MultiplierList}
 use Rattle.sp_filter.specs.Held.{Closes, FilterList, filter_of}
 use Rattle.sp_tree.specs.declared.nodes.Bound.{Bound}
 use Rattle.sp_tree.specs.declared.nodes.Node.{Node}
@@ -43,9 +43,10 @@ pub record IsFound (m : ModelParts) (found : List Found) (b : Bounds) (serial : 
   pub feasible : Feasible m (found_of found serial).point
   pub value : objective m (found_of found serial).point ≡ (found_of found serial).value
 
--- the bound names a list of the table, and is the number that this list gives over the box
+-- the bound names a list of the table that keeps the rules of lists, and is the number that this list gives over the box
 pub record IsBoundOf (m : ModelParts) (lists : List MultiplierList) (b : Bounds) (bound : Bound) : Type 0 where
   pub known : bound.by < length lists
+  pub formed : IsWellFormed (list_at lists bound.by)
   pub number : number_of m b (list_at lists bound.by) ≡ Some bound.least
 
 -- what a node of each kind says, filters aside: a split box has no reason

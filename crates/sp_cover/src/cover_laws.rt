@@ -18,6 +18,7 @@ ghost use Rattle.sp_cover.specs.Listing.{AreFound, IsListed, WasFound};
 ghost use Rattle.sp_cover.specs.declared.aims.Aim.{Aim as AimOf};
 
 use sp_activity::reasons_are_true;
+use sp_bound::bounds_are_sound;
 use sp_model::{feasible_is_within, points_are_all_within, points_are_counted};
 use sp_sums::sums_lie_between;
 use sp_tree::{extensions_last, trees_divide};
@@ -51,6 +52,7 @@ pub fn searches_last()
     feasible_is_within();
     reasons_are_true();
     sums_lie_between();
+    bounds_are_sound();
     points_are_all_within();
     points_are_counted();
 }
@@ -83,6 +85,7 @@ pub fn covered_searches_find_all()
     feasible_is_within();
     reasons_are_true();
     sums_lie_between();
+    bounds_are_sound();
     points_are_all_within();
     points_are_counted();
 }

@@ -17,6 +17,7 @@ ghost use Rattle.sp_cover.specs.Moves.{FitsAim, KeepsLists, MayClose, MayFind, b
 ghost use Rattle.sp_cover.specs.declared.aims.Aim.{Aim as AimOf};
 
 use sp_activity::reasons_are_true;
+use sp_bound::bounds_are_sound;
 use sp_dual::Multipliers;
 use sp_filter::Filters;
 use sp_list::Found;
@@ -176,6 +177,7 @@ impl Search {
         feasible_is_within();
         reasons_are_true();
         sums_lie_between();
+        bounds_are_sound();
         trees_divide();
         points_are_all_within();
         points_are_counted();

@@ -3,3 +3,4 @@ pub mod ObjectiveLemmas
 pub mod StepLemmas
 pub mod MeasureLemmas
 pub mod RunLemmas
+pub mod StartLemmas

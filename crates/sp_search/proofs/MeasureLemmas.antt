@@ -4,10 +4,11 @@ use Rattle.std.proofs.lemmas.List.{get_or-map, length-map, length-set}
 use Rattle.sp_model.specs.Boxes.{Bounds, CanSplit, above, below, point_count, room}
 use Rattle.sp_tree.specs.declared.nodes.Node.{Node}
 use Rattle.sp_tree.specs.declared.nodes.Kind.{Kind}
-use Rattle.sp_tree.specs.declared.nodes.Kind.TheVariants.{Split, Open, Dead, Bounded, Screened, Point}
+use Rattle.sp_tree.specs.declared.nodes.Kind.TheVariants.{Split, Open}
 use Rattle.sp_tree.specs.Splits.{Parts, box_at, parts_at, total, weight}
 use Rattle.sp_tree.specs.Trees.{IsGrown, SplitsNode, TreeOf, node_at, open_node, split_of, splits, with_kind, with_kind_of}
 use Rattle.sp_cover.specs.Cover.{IsOpenAt}
+use Rattle.sp_search.specs.Measures.{node_room, open_room, open_weight}
 use Rattle.sp_search.proofs.StepLemmas.{boxes-nodes}
 
 -- what the law of counts says of a split
@@ -54,21 +55,6 @@ total-append w [] ys [] cs long = omega arith
 total-append w [] ys (b ∷ bs) cs long = absurd (omega (arith, long))
 total-append w (x ∷ xs) ys [] cs long = absurd (omega (arith, long))
 total-append w (x ∷ xs) ys (b ∷ bs) cs long = let rest = total-append w xs ys bs cs (omega (arith, long)) in omega (arith, rest)
-
--- the nodes that the open leaves have room for
-abbrev pub open_weight : Kind → ℕ → ℕ
-open_weight (Split var at left right) n = 0
-open_weight Open n = n
-open_weight (Dead reason) n = 0
-open_weight (Bounded bound) n = 0
-open_weight (Screened f) n = 0
-open_weight (Point serial) n = 0
-
-abbrev pub node_room : Node → Bounds → ℕ
-node_room n b = open_weight n.kind (room (point_count b))
-
-abbrev pub open_room : TreeOf → ℕ
-open_room t = total node_room t.nodes t.boxes
 
 open-room : (kind : Kind) (n : ℕ) → kind ≡ Open → open_weight kind n ≡ n
 open-room kind n is = rw is refl

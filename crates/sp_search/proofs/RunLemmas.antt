@@ -26,7 +26,8 @@ use Rattle.sp_search.specs.declared.optima.OptEnd.{OptEnd}
 use Rattle.sp_search.specs.declared.optima.OptEnd.TheVariants.{Optimal, Infeasible, NodeLimit}
 use Rattle.sp_search.specs.declared.goals.Stepped.TheVariants.{Split, Closed, Found as FoundPoint, Full}
 use Rattle.sp_search.proofs.BoxLemmas.{counted-from, unreasoned-filled}
-use Rattle.sp_search.proofs.MeasureLemmas.{Counts, closed-falls, open_room, open_weight, roomy, split-falls}
+use Rattle.sp_search.specs.Measures.{open_room, open_weight}
+use Rattle.sp_search.proofs.MeasureLemmas.{Counts, closed-falls, roomy, split-falls}
 
 -- ---- the measure
 
@@ -41,17 +42,17 @@ closes-shut m s goal b (Point serial) h n = refl
 tree-of : (s t : SearchOf) → s ≡ t → s.tree ≡ t.tree
 tree-of s t e = ap (λ r. r.tree) e
 
-pub step-falls : Counts → (m : ModelParts) (old new : SearchOf) (stated : ℕ) (goal : Goal) (node limit : ℕ) (stepped : Stepped)
-    → IsGrown old.tree → IsOpenAt old.tree.nodes node → stepped ≢ Full → Steps m old new stated goal node limit stepped → open_room new.tree < open_room old.tree
-step-falls l m old new stated goal node limit Split grown leaf go h =
+pub step-falls : Counts → (m : ModelParts) (old new : SearchOf) (goal : Goal) (node limit : ℕ) (stepped : Stepped)
+    → IsGrown old.tree → IsOpenAt old.tree.nodes node → stepped ≢ Full → Steps m old new goal node limit stepped → open_room new.tree < open_room old.tree
+step-falls l m old new goal node limit Split grown leaf go h =
     let b = box_at old.tree.boxes node in
     split-falls l old.tree new.tree node h.var h.at h.left h.right grown leaf h.lawful (counted-from b (unreasoned-filled m b h.unclosed.unreasoned)) h.splits
-step-falls l m old new stated goal node limit Closed grown leaf go h =
+step-falls l m old new goal node limit Closed grown leaf go h =
     let b = box_at old.tree.boxes node in
     rw (tree-of new (settled (closed_as old node h.kind) new.proved) h.closed) (closed-falls old.tree node h.kind grown leaf (closes-shut m old goal b h.kind h.closes))
-step-falls l m old new stated goal node limit (FoundPoint serial) grown leaf go h =
+step-falls l m old new goal node limit (FoundPoint serial) grown leaf go h =
     rw (tree-of new (settled (found_as old node h.point) new.proved) h.found) (closed-falls old.tree node (Point (length old.found + 1)) grown leaf (λ n. refl))
-step-falls l m old new stated goal node limit Full grown leaf go h = absurd (go refl)
+step-falls l m old new goal node limit Full grown leaf go h = absurd (go refl)
 
 -- ---- found points
 
@@ -98,13 +99,13 @@ found-of s t e = ap (λ r. r.found) e
 same-from : (a b : List Found) → b ≡ a → IsFoundLater a b
 same-from a b e = rw e (same-found a)
 
-step-found : (m : ModelParts) (old new : SearchOf) (stated node limit : ℕ) (stepped : Stepped) → IsSearch m old → Steps m old new stated Improve node limit stepped → IsFoundLater old.found new.found
-step-found m old new stated node limit Split c h = same-from old.found new.found (found-of new (settled (moved_to old new.tree) new.proved) h.rest)
-step-found m old new stated node limit Closed c h = same-from old.found new.found (found-of new (settled (closed_as old node h.kind) new.proved) h.closed)
-step-found m old new stated node limit (FoundPoint serial) c h =
+step-found : (m : ModelParts) (old new : SearchOf) (node limit : ℕ) (stepped : Stepped) → IsSearch m old → Steps m old new Improve node limit stepped → IsFoundLater old.found new.found
+step-found m old new node limit Split c h = same-from old.found new.found (found-of new (settled (moved_to old new.tree) new.proved) h.rest)
+step-found m old new node limit Closed c h = same-from old.found new.found (found-of new (settled (closed_as old node h.kind) new.proved) h.closed)
+step-found m old new node limit (FoundPoint serial) c h =
     let is : new.found ≡ old.found ++ (h.point ∷ []) = found-of new (settled (found_as old node h.point) new.proved) h.found in
     rw is (record { more = h.point ∷ []; grows = refl; falls = λ falls. falls-more old.found h.point old.best c.best h.wanted falls })
-step-found m old new stated node limit Full c h = same-from old.found new.found (found-of new old h.1)
+step-found m old new node limit Full c h = same-from old.found new.found (found-of new old h.1)
 
 -- ---- the size
 
@@ -121,21 +122,21 @@ split-size s t id var at left right made =
     let long : length t.nodes ≡ length (slice_set s.nodes id n) + 2 = rw made.nodes_are (length-append (slice_set s.nodes id n) (open_node ∷ open_node ∷ [])) in
     omega (arith, long, set-long)
 
-step-size : (m : ModelParts) (old new : SearchOf) (stated : ℕ) (goal : Goal) (node limit : ℕ) (stepped : Stepped) → Steps m old new stated goal node limit stepped
+step-size : (m : ModelParts) (old new : SearchOf) (goal : Goal) (node limit : ℕ) (stepped : Stepped) → Steps m old new goal node limit stepped
     → (length new.tree.nodes ≤ limit) ⊎ (length new.tree.nodes ≤ length old.tree.nodes)
-step-size m old new stated goal node limit Split h =
+step-size m old new goal node limit Split h =
     let more = split-size old.tree new.tree node h.var h.at h.left h.right h.splits in
     let room = h.room in
     inl (omega (arith, more, room))
-step-size m old new stated goal node limit Closed h =
+step-size m old new goal node limit Closed h =
     let same = count-same new (settled (closed_as old node h.kind) new.proved) h.closed in
     let long = kind-size old.tree node h.kind in
     inr (omega (arith, same, long))
-step-size m old new stated goal node limit (FoundPoint serial) h =
+step-size m old new goal node limit (FoundPoint serial) h =
     let same = count-same new (settled (found_as old node h.point) new.proved) h.found in
     let long = kind-size old.tree node (Point (length old.found + 1)) in
     inr (omega (arith, same, long))
-step-size m old new stated goal node limit Full h = let same = count-same new old h.1 in inr (omega (arith, same))
+step-size m old new goal node limit Full h = let same = count-same new old h.1 in inr (omega (arith, same))
 
 -- ---- the run
 
@@ -156,13 +157,13 @@ Joined = (a b c : TreeOf) → Extends a b → Extends b c → Extends a c
 
 -- one more step of the run
 pub run-goes-on : Joined → (a b c : StateOf) (node limit : ℕ) (stepped : Stepped) → IsState b → IsRun a b limit → c ≡ with_search b c.search → Extends b.search.tree c.search.tree
-    → Steps b.model b.search c.search b.stated Improve node limit stepped → IsRun a c limit
+    → Steps b.model b.search c.search Improve node limit stepped → IsRun a c limit
 run-goes-on join a b c node limit stepped st run rest extends steps =
     record {
       rest = rest-joined a b c run.rest rest;
       extends = join a.search.tree b.search.tree c.search.tree run.extends extends;
-      size = size-joined (length a.search.tree.nodes) (length b.search.tree.nodes) (length c.search.tree.nodes) limit run.size (step-size b.model b.search c.search b.stated Improve node limit stepped steps);
-      found = joined-found a.search.found b.search.found c.search.found run.found (step-found b.model b.search c.search b.stated node limit stepped st.search steps);
+      size = size-joined (length a.search.tree.nodes) (length b.search.tree.nodes) (length c.search.tree.nodes) limit run.size (step-size b.model b.search c.search Improve node limit stepped steps);
+      found = joined-found a.search.found b.search.found c.search.found run.found (step-found b.model b.search c.search node limit stepped st.search steps);
     }
 
 -- a full tree has no room
@@ -185,11 +186,11 @@ not-limit s limit Infeasible done ends e = cc
 not-limit s limit NodeLimit done ends e = false≢true (sym ends.0 ∙ done)
 
 -- the end of a run on a full tree
-pub full-stuck : (s : StateOf) (goal : Goal) (node limit : ℕ) → IsOpenAt s.search.tree.nodes node → IsFull s.model s.search s.stated goal node limit → IsStuck s goal limit
+pub full-stuck : (s : StateOf) (goal : Goal) (node limit : ℕ) → IsOpenAt s.search.tree.nodes node → IsFull s.model s.search goal node limit → IsStuck s goal limit
 full-stuck s goal node limit leaf full = record { node = node; leaf = leaf; full = full }
 
 pub model-stays : (a b : StateOf) → b ≡ with_search a b.search → b.model ≡ a.model
 model-stays a b e = ap (λ s. s.model) e
 
-pub full-of : (m : ModelParts) (old new : SearchOf) (stated : ℕ) (goal : Goal) (node limit : ℕ) (stepped : Stepped) → stepped ≡ Full → Steps m old new stated goal node limit stepped → IsFull m old stated goal node limit
-full-of m old new stated goal node limit stepped is h = let g = rw is at h in g.0
+pub full-of : (m : ModelParts) (old new : SearchOf) (goal : Goal) (node limit : ℕ) (stepped : Stepped) → stepped ≡ Full → Steps m old new goal node limit stepped → IsFull m old goal node limit
+full-of m old new goal node limit stepped is h = let g = rw is at h in g.0

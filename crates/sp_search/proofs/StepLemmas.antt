@@ -1,7 +1,7 @@
 -- A step: what may close a leaf, which point is wanted, and that each node's box lies in the model's.
-use Rattle.std.proofs.Common.{◌≡◌, ℕ, zero, suc, ◌+◌, ◌<◌, inl, inr, Bool, true, false, not, Option, None, Some, IfSome, List, [], ◌∷◌, length, slice_index_or, All, AllPairs, IsTrue, ℤ, ◌≤ℤ◌, ◌<ℤ◌, ◌==◌, refl, sym, ap, ◌∙◌, arith}
+use Rattle.std.proofs.Common.{◌≡◌, ℕ, zero, suc, ◌+◌, ◌<◌, ◌≤◌, inl, inr, Bool, true, false, not, Option, None, Some, IfSome, MatchOption, List, [], ◌∷◌, ◌++◌, length, slice_index_or, All, AllPairs, IsTrue, ℤ, ◌≤ℤ◌, ◌<ℤ◌, ◌==◌, refl, sym, ap, ◌∙◌, arith, append_assoc, length-append}
 use Rattle.std.proofs.lemmas.Int.{by_lt_z}
-use Rattle.std.proofs.lemmas.List.{get_or-map, length-map}
+use Rattle.std.proofs.lemmas.List.{get_or_append_left, get_or-map, length-map}
 use Rattle.std.proofs.lemmas.List.Elements.{All-weaker}
 use Rattle.std.proofs.lemmas.Bool.{cases_lt, false≢true}
 use Rattle.sp_model.specs.declared.parts.ModelParts.{ModelParts}
@@ -18,15 +18,19 @@ use Rattle.sp_tree.specs.declared.nodes.Node.{Node}
 use Rattle.sp_tree.specs.declared.nodes.Kind.{Kind}
 use Rattle.sp_tree.specs.declared.nodes.Kind.TheVariants.{Split, Open, Dead, Bounded, Screened, Point}
 use Rattle.sp_tree.specs.Splits.{box_at, parts_at}
-use Rattle.sp_tree.specs.Tables.{list_at}
+use Rattle.sp_tree.specs.Tables.{IsPrefix, list_at}
+use Rattle.sp_dual.specs.Lists.{IsWellFormed, MultiplierList, zero_list}
+use Rattle.sp_tree.specs.declared.nodes.Bound.{Bound}
+use Rattle.sp_bound.specs.StatedLists.{IsStated, stated_lists}
 use Rattle.sp_tree.specs.Trees.{IsClosing, IsGrown, TreeOf, node_at, open_node, split_of, splits}
 use Rattle.sp_tree.specs.Laws.{IsPartition}
 use Rattle.sp_cover.specs.Numbers.{least_objective, number_of}
 use Rattle.sp_cover.specs.Cover.{IfScreened, IsBestWithin, IsOpenAt, IsSearch, SearchOf}
+use Rattle.sp_cover.specs.declared.aims.Aim.{Aim}
 use Rattle.sp_cover.specs.Moves.{FitsAim, IsBetter, IsPast, MayClose, MayFind, closed_as, found_as, moved_to, settled}
 use Rattle.sp_search.specs.States.{AreStated}
-use Rattle.sp_search.specs.Steps.{AreGoalFilters, ClosesAs, IsScreenFor, IsScreenOf, IsUnclosed, IsUnscreenedFor, IsWanted, Steps, aim_of}
-use Rattle.sp_search.specs.InnerSteps.{AreSingle, IsOnly, IsReady}
+use Rattle.sp_search.specs.Steps.{AreGoalFilters, ClosesAs, IsScreenFor, IsScreenOf, IsPastList, IsUnclosed, IsUnlisted, IsUnscreenedFor, IsWanted, Steps, aim_of}
+use Rattle.sp_search.specs.InnerSteps.{AreSingle, IsNotPast, IsOnly, IsPastNumber, IsReady, IsUnlistedBefore}
 use Rattle.sp_search.specs.declared.goals.Goal.{Goal}
 use Rattle.sp_search.specs.declared.goals.Goal.TheVariants.{Improve, Collect}
 use Rattle.sp_search.specs.declared.goals.Stepped.{Stepped}
@@ -117,14 +121,22 @@ closes-more hs b n e inside before here k d h =
 
 -- ---- the wanted point
 
-zero-number : (m : ModelParts) (s : SearchOf) (b : Bounds) → IsGrown s.tree → number_of m b (list_at s.tree.lists 0) ≡ Some (least_objective m b)
-zero-number m s b grown = rw grown.table.first refl
+pub some-stated : (m : ModelParts) → 0 < length (stated_lists m)
+unfolding stated_lists
+some-stated m = omega arith
 
-not-past : SumsMeet → (m : ModelParts) (s : SearchOf) (stated : ℕ) (goal : Goal) (b : Bounds) (f : Found) → IsGrown s.tree → AreStated s stated → IsUnclosed m s stated goal b → IsOnly m b f → ¬ IsPast (aim_of goal) s.best f.value
-not-past meet m s stated goal b f grown st h only =
-    let number = zero-number m s b grown in
+pub first-stated : (m : ModelParts) → slice_index_or (stated_lists m) 0 zero_list ≡ zero_list
+unfolding stated_lists
+first-stated m = refl
+
+zero-number : (m : ModelParts) (b : Bounds) → number_of m b (slice_index_or (stated_lists m) 0 zero_list) ≡ Some (least_objective m b)
+zero-number m b = rw (first-stated m) refl
+
+not-past : SumsMeet → (m : ModelParts) (s : SearchOf) (goal : Goal) (b : Bounds) (f : Found) → IsUnclosed m s goal b → IsOnly m b f → ¬ IsPast (aim_of goal) s.best f.value
+not-past meet m s goal b f h only =
+    let number = zero-number m b in
     let value = least-at-point meet m b f.point only.alone ∙ only.value in
-    h.unlisted.none 0 st.some f.value (number ∙ ap Some value)
+    h.unlisted.none 0 zero_list (some-stated m) f.value (number ∙ ap Some value)
 
 not-within : (best : Option ℤ) (v : ℤ) → (IsBestWithin best v → ⊥) → IsBetter best v
 not-within None v h = tt
@@ -154,9 +166,9 @@ pub record Finds (m : ModelParts) (s : SearchOf) (goal : Goal) (b : Bounds) (f :
   pub may : MayFind m s b f
   pub wanted : IsWanted goal s.best f
 
-pub finds : SumsMeet → (m : ModelParts) (s : SearchOf) (stated : ℕ) (goal : Goal) (b : Bounds) (node : ℕ) (f : Found) → IsReady m s stated b node goal → IsUnclosed m s stated goal b → AreSingle b → IsOnly m b f → Finds m s goal b f
+pub finds : SumsMeet → (m : ModelParts) (s : SearchOf) (stated : ℕ) (goal : Goal) (b : Bounds) (node : ℕ) (f : Found) → IsReady m s stated b node goal → IsUnclosed m s goal b → AreSingle b → IsOnly m b f → Finds m s goal b f
 finds meet m s stated goal b node f ready h single only =
-    let past = not-past meet m s stated goal b f ready.search.grown ready.lists h only in
+    let past = not-past meet m s goal b f h only in
     let wanted = wanted-from goal s.best b f past only.alone h.unscreened in
     record {
       may = record { one = one-point b single; held = only.alone.within; feasible = only.feasible; value = only.value; better = better-early goal s f ready.fits wanted };
@@ -200,9 +212,9 @@ settle-rest : (mid new x : SearchOf) → new ≡ settled mid new.proved → mid 
 settle-rest mid new x e k = e ∙ ap (λ s. settled s new.proved) k
 
 -- ending phase one changes nothing else that a step did
-pub steps-settled : (m : ModelParts) (old mid new : SearchOf) (stated : ℕ) (goal : Goal) (node limit : ℕ) (stepped : Stepped)
-    → Steps m old mid stated goal node limit stepped → new ≡ settled mid new.proved → (mid ≡ old → new ≡ mid) → Steps m old new stated goal node limit stepped
-steps-settled m old mid new stated goal node limit SplitStep h e still =
+pub steps-settled : (m : ModelParts) (old mid new : SearchOf) (goal : Goal) (node limit : ℕ) (stepped : Stepped)
+    → Steps m old mid goal node limit stepped → new ≡ settled mid new.proved → (mid ≡ old → new ≡ mid) → Steps m old new goal node limit stepped
+steps-settled m old mid new goal node limit SplitStep h e still =
     let same : new.tree ≡ mid.tree = ap (λ s. s.tree) e in
     record {
       unclosed = h.unclosed;
@@ -215,8 +227,60 @@ steps-settled m old mid new stated goal node limit SplitStep h e still =
       splits = rw same h.splits;
       rest = settle-rest mid new (moved_to old mid.tree) e h.rest ∙ ap (λ t. settled (moved_to old t) new.proved) (sym same);
     }
-steps-settled m old mid new stated goal node limit Closed h e still =
+steps-settled m old mid new goal node limit Closed h e still =
     record { kind = h.kind; closes = h.closes; closed = settle-rest mid new (closed_as old node h.kind) e h.closed }
-steps-settled m old mid new stated goal node limit (FoundPoint serial) h e still =
+steps-settled m old mid new goal node limit (FoundPoint serial) h e still =
     record { point = h.point; may = h.may; wanted = h.wanted; next = h.next; found = settle-rest mid new (found_as old node h.point) e h.found }
-steps-settled m old mid new stated goal node limit Full h e still = (h.0, still h.1 ∙ h.1)
+steps-settled m old mid new goal node limit Full h e still = (h.0, still h.1 ∙ h.1)
+
+-- ---- the stated lists in the table
+
+list-default : (lists : List MultiplierList) (k : ℕ) (d e : MultiplierList) → k < length lists → slice_index_or lists k d ≡ slice_index_or lists k e
+list-default [] k d e h = absurd (omega (arith, h))
+list-default (l ∷ lists) zero d e h = refl
+list-default (l ∷ lists) (suc k) d e h = list-default lists k d e (omega (arith, h))
+
+-- they stay first
+pub stated-last : (m : ModelParts) (old new : SearchOf) (stated : ℕ) → AreStated m old stated → IsPrefix old.tree.lists new.tree.lists → AreStated m new stated
+stated-last m old new stated h more =
+    record { front = (h.front.0 ++ more.0, more.1 ∙ ap (λ ls. ls ++ more.0) h.front.1 ∙ append_assoc (stated_lists m) h.front.0 more.0); count = h.count }
+
+pub stated-some : (m : ModelParts) (s : SearchOf) (stated : ℕ) → AreStated m s stated → 0 < stated
+stated-some m s stated h = let some = some-stated m in let count = h.count in omega (arith, some, count)
+
+pub stated-known : (m : ModelParts) (s : SearchOf) (stated : ℕ) → AreStated m s stated → stated ≤ length s.tree.lists
+stated-known m s stated h =
+    let long = ap length h.front.1 in
+    let both = length-append (stated_lists m) h.front.0 in
+    let count = h.count in
+    omega (arith, long, both, count)
+
+-- the table has each of them at its place
+pub stated-at : (m : ModelParts) (lists : List MultiplierList) (k : ℕ) → IsPrefix (stated_lists m) lists → k < length (stated_lists m) → (d : MultiplierList) → slice_index_or (stated_lists m) k d ≡ list_at lists k
+stated-at m lists k front h d = list-default (stated_lists m) k d zero_list h ∙ sym (rw front.1 (get_or_append_left (stated_lists m) front.0 zero_list k h))
+
+-- each of them keeps the rules of lists, and names rows of the model
+pub table-stated : (m : ModelParts) (lists : List MultiplierList) (k : ℕ) → All (IsStated m) (stated_lists m) → IsPrefix (stated_lists m) lists → k < length (stated_lists m) → IsStated m (list_at lists k)
+table-stated m lists k all front h = rw (stated-at m lists k front h zero_list) at (all k zero_list h)
+
+-- where none of them closes the box, no stated list does
+pub unlisted-all : (m : ModelParts) (lists : List MultiplierList) (aim : Aim) (best : Option ℤ) (b : Bounds) → IsPrefix (stated_lists m) lists → IsUnlistedBefore m lists (length (stated_lists m)) aim best b → IsUnlisted m aim best b
+unlisted-all m lists aim best b front h = record { none = λ k d k-in v number. (h.each k k-in).none v (rw (stated-at m lists k front k-in d) at number) }
+
+pub unlisted-more : (m : ModelParts) (lists : List MultiplierList) (n : ℕ) (aim : Aim) (best : Option ℤ) (b : Bounds) → IsUnlistedBefore m lists n aim best b → IsNotPast m (list_at lists n) aim best b → IsUnlistedBefore m lists (n + 1) aim best b
+unlisted-more m lists n aim best b h here = record {
+  each = λ k less. elim (cases_lt k n) [
+    | inl lower ↦ h.each k lower
+    | inr more ↦ let same : k ≡ n = omega (arith, less, more) in rw same here
+  ];
+}
+
+-- what a list's number says of it
+pub past-told : (m : ModelParts) (lists : List MultiplierList) (place : ℕ) (aim : Aim) (best : Option ℤ) (b : Bounds) (number : Option ℤ) (r : Option Bound)
+    → place < length lists → IsWellFormed (list_at lists place) → number ≡ number_of m b (list_at lists place)
+    → MatchOption r ((v : ℤ) → number ≡ Some v → ¬ IsPast aim best v) (IsPastNumber number aim best place)
+    → MatchOption r (IsNotPast m (list_at lists place) aim best b) (λ bound. IsPastList m lists aim best b bound.by bound.least)
+past-told m lists place aim best b number None within formed is h = record { none = λ v e. h v (is ∙ e) }
+past-told m lists place aim best b number (Some bound) within formed is h =
+    let by = h.2 in
+    record { known = rw by within; formed = rw by formed; number = rw by (sym is ∙ h.0); past = h.1 }

@@ -22,7 +22,7 @@ pub record IsFirstBest (found : List Found) (serial : ℕ) : Type 0 where
 pub record IsStuck (s : StateOf) (goal : Goal) (limit : ℕ) : Type 0 where
   pub node : ℕ
   pub leaf : IsOpenAt s.search.tree.nodes node
-  pub full : IsFull s.model s.search s.stated goal node limit
+  pub full : IsFull s.model s.search goal node limit
 
 -- the least value found is the optimum of the model
 pub record HasOptimum (s : StateOf) : Type 0 where

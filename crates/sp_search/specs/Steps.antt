@@ -5,7 +5,8 @@ use Rattle.sp_model.specs.Boxes.{Bounds, CanSplit, point_count}
 use Rattle.sp_list.specs.declared.found.Found.{Found}
 use Rattle.sp_activity.specs.Order.{IsOpen as IsUnreasoned}
 use Rattle.sp_activity.specs.Reasons.{Holds}
-use Rattle.sp_dual.specs.Lists.{MultiplierList}
+use Rattle.sp_dual.specs.Lists.{IsWellFormed, MultiplierList}
+use Rattle.sp_bound.specs.StatedLists.{stated_lists}
 use Rattle.sp_filter.specs.declared.kinds.Filter.{Filter}
 use Rattle.sp_filter.specs.Held.{Closes, FilterList, Passes, filter_of}
 use Rattle.sp_tree.specs.declared.nodes.Kind.{Kind}
@@ -47,15 +48,16 @@ AreGoalFilters (Collect cut filters) fs = fs ≡ filters.now
 
 -- ---- what closes a box
 
--- the stated list at this place closes it
-pub record IsPastList (m : ModelParts) (lists : List MultiplierList) (stated : ℕ) (aim : Aim) (best : Option ℤ) (b : Bounds) (by : ℕ) (least : ℤ) : Type 0 where
-  pub known : by < stated
+-- the list at this place of a table closes it
+pub record IsPastList (m : ModelParts) (lists : List MultiplierList) (aim : Aim) (best : Option ℤ) (b : Bounds) (by : ℕ) (least : ℤ) : Type 0 where
+  pub known : by < length lists
+  pub formed : IsWellFormed (list_at lists by)
   pub number : number_of m b (list_at lists by) ≡ Some least
   pub past : IsPast aim best least
 
--- no stated list does
-pub record IsUnlisted (m : ModelParts) (lists : List MultiplierList) (stated : ℕ) (aim : Aim) (best : Option ℤ) (b : Bounds) : Type 0 where
-  pub none : (k : ℕ) → k < stated → (v : ℤ) → number_of m b (list_at lists k) ≡ Some v → ¬ IsPast aim best v
+-- no stated list of the model does
+pub record IsUnlisted (m : ModelParts) (aim : Aim) (best : Option ℤ) (b : Bounds) : Type 0 where
+  pub none : All (λ list. (v : ℤ) → number_of m b list ≡ Some v → ¬ IsPast aim best v) (stated_lists m)
 
 -- no held filter does
 pub record IsUnscreened (fs : FilterList) (b : Bounds) : Type 0 where
@@ -67,9 +69,9 @@ IsUnscreenedFor Improve b = Unit {0}
 IsUnscreenedFor (Collect cut filters) b = IsUnscreened filters.now b
 
 -- nothing closes the box under the goal: no reason, no stated list, no held filter
-pub record IsUnclosed (m : ModelParts) (s : SearchOf) (stated : ℕ) (goal : Goal) (b : Bounds) : Type 0 where
+pub record IsUnclosed (m : ModelParts) (s : SearchOf) (goal : Goal) (b : Bounds) : Type 0 where
   pub unreasoned : IsUnreasoned m b
-  pub unlisted : IsUnlisted m s.tree.lists stated (aim_of goal) s.best b
+  pub unlisted : IsUnlisted m (aim_of goal) s.best b
   pub unscreened : IsUnscreenedFor goal b
 
 -- the held filter of this id closes the box
@@ -101,8 +103,8 @@ IsWanted Improve best f = IsBetter best f.value
 IsWanted (Collect cut filters) best f = (f.value ≤ℤ cut) × Passes filters.now.held f.point
 
 -- the leaf is split at a lawful place, nothing closed it, and there was room for two more nodes
-pub record IsSplitStep (m : ModelParts) (old new : SearchOf) (stated : ℕ) (goal : Goal) (node limit : ℕ) : Type 0 where
-  pub unclosed : IsUnclosed m old stated goal (box_at old.tree.boxes node)
+pub record IsSplitStep (m : ModelParts) (old new : SearchOf) (goal : Goal) (node limit : ℕ) : Type 0 where
+  pub unclosed : IsUnclosed m old goal (box_at old.tree.boxes node)
   pub room : length old.tree.nodes + 2 ≤ limit
   pub var : ℕ
   pub at : ℤ
@@ -127,14 +129,14 @@ pub record IsFoundStep (m : ModelParts) (old new : SearchOf) (goal : Goal) (node
   pub found : new ≡ settled (found_as old node point) new.proved
 
 -- the cause of a full tree
-pub record IsFull (m : ModelParts) (s : SearchOf) (stated : ℕ) (goal : Goal) (node limit : ℕ) : Type 0 where
+pub record IsFull (m : ModelParts) (s : SearchOf) (goal : Goal) (node limit : ℕ) : Type 0 where
   pub no_room : limit < length s.tree.nodes + 2
   pub many : 2 ≤ point_count (box_at s.tree.boxes node)
-  pub unclosed : IsUnclosed m s stated goal (box_at s.tree.boxes node)
+  pub unclosed : IsUnclosed m s goal (box_at s.tree.boxes node)
 
 -- each answer with what was done
-abbrev pub Steps : ModelParts → SearchOf → SearchOf → ℕ → Goal → ℕ → ℕ → Stepped → Type 0
-Steps m old new stated goal node limit Split = IsSplitStep m old new stated goal node limit
-Steps m old new stated goal node limit Closed = IsClosedStep m old new goal node
-Steps m old new stated goal node limit (FoundPoint serial) = IsFoundStep m old new goal node serial
-Steps m old new stated goal node limit Full = IsFull m old stated goal node limit × (new ≡ old)
+abbrev pub Steps : ModelParts → SearchOf → SearchOf → Goal → ℕ → ℕ → Stepped → Type 0
+Steps m old new goal node limit Split = IsSplitStep m old new goal node limit
+Steps m old new goal node limit Closed = IsClosedStep m old new goal node
+Steps m old new goal node limit (FoundPoint serial) = IsFoundStep m old new goal node serial
+Steps m old new goal node limit Full = IsFull m old goal node limit × (new ≡ old)

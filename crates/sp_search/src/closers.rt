@@ -1,16 +1,23 @@
 //! What closes a box: a reason, a held filter, or the bound of a stated list.
 
-ghost use Rattle.std.specs.Prelude.{◌≡◌, ◌<◌, ◌≤◌, ◌^◌, ◌+ℤ◌, ℕ, length, unsigned_abs, IfNone, IfSome, MatchOption};
+ghost use Rattle.std.specs.Prelude.{◌≡◌, ◌<◌, ◌≤◌, ◌^◌, ◌+ℤ◌, ℕ, ℤ, Some, length, unsigned_abs, IfNone, IfSome, MatchOption};
 ghost use Rattle.sp_model.specs.Boxes.{CanSplit, range_at};
 ghost use Rattle.sp_model.specs.Models.{root_of};
 ghost use Rattle.sp_sums.specs.Ranges.{IsInside};
 ghost use Rattle.sp_activity.specs.Within.{IsUnder};
 ghost use Rattle.sp_cover.specs.Numbers.{least_objective, number_of};
 ghost use Rattle.sp_search.specs.States.{AreFit, AreStated};
+ghost use Rattle.sp_tree.specs.Tables.{IsPrefix, list_at};
+ghost use Rattle.sp_cover.specs.Moves.{IsPast};
+ghost use Rattle.sp_search.specs.InnerSteps.{IsNotPast, IsPastNumber};
+ghost use Rattle.sp_bound.specs.Bounds.{AreRowsKnown};
+ghost use Rattle.sp_bound.specs.StatedLists.{stated_lists};
 ghost use Rattle.sp_search.specs.Steps.{ClosesAs, IsFitFor, IsPastList, IsScreenFor, IsScreenOf, IsUnclosed, IsUnlisted, IsUnscreened, IsUnscreenedFor, aim_of};
 
 use crate::goals::Goal;
+use crate::hints::place_hint;
 use sp_activity::closed;
+use sp_bound::{Scratch, bound, bound_in, stated_lists_are_lists};
 use sp_cover::{Aim, Search, is_past};
 use sp_dual::Multipliers;
 use sp_filter::{FilterId, Filters, fitting_filters_are_narrow, narrow_filters_stay_narrow};
@@ -50,15 +57,68 @@ fn sum_of(left: &i128, right: &i128) -> i128
 }
 
 /// The number that a list gives over a box, if it gives one.
-fn number_of(model: &Model, bounds: &BoxOf, list: &Multipliers) -> Option<i128>
-    requires { IsInside (root_of model.now) bounds.now }
+fn number_of(
+    model: &Model,
+    bounds: &BoxOf,
+    list: &Multipliers,
+    scratch: &mut Scratch,
+) -> Option<i128>
+    requires known { AreRowsKnown model.now list.now }
+    requires inside { IsInside (root_of model.now) bounds.now }
     ensures { result ≡ number_of model.now bounds.now list.now }
 {
     if list.entries().is_empty() {
         Some(least_objective(model, bounds))
+    } else if scratch.suits(model) {
+        bound_in(model, bounds, list, scratch)
     } else {
-        None
+        bound(model, bounds, list)
     }
+}
+
+/// The number of the list at a place, where there is one, as a bound, where it is past the aim.
+fn past_number(number: &Option<i128>, aim: &Aim, best: &Option<i128>, place: u32) -> Option<Bound>
+    ensures { MatchOption result
+        ((v : ℤ) → number.now ≡ Some v → ¬ IsPast aim.now best.now v)
+        (IsPastNumber number.now aim.now best.now place) }
+{
+    match number {
+        Some(least) => {
+            if is_past(aim, best, least) {
+                Some(Bound {
+                    by: place,
+                    least: *least,
+                })
+            } else {
+                None
+            }
+        }
+        None => None,
+    }
+}
+
+/// The number of the stated list at a place over the box, where it is past the aim.
+fn past_list(
+    model: &Model,
+    lists: &[Multipliers],
+    place: u32,
+    aim: &Aim,
+    best: &Option<i128>,
+    bounds: &BoxOf,
+    scratch: &mut Scratch,
+) -> Option<Bound>
+    requires front { IsPrefix (stated_lists model.now) lists.now }
+    requires known { place < length (stated_lists model.now) }
+    requires within { place < length lists.now }
+    requires inside { IsInside (root_of model.now) bounds.now }
+    ensures { MatchOption result
+        (IsNotPast model.now (list_at lists.now place) aim.now best.now bounds.now)
+        (λ bound. IsPastList model.now lists.now aim.now best.now bounds.now bound.by bound.least) }
+{
+    let _parts = model.parts();
+    stated_lists_are_lists();
+    let number = number_of(model, bounds, &lists[place as usize], scratch);
+    past_number(&number, aim, best, place)
 }
 
 /// The first of the stated lists whose number over the box is past the aim.
@@ -69,20 +129,19 @@ fn closing_list(
     aim: &Aim,
     best: &Option<i128>,
     bounds: &BoxOf,
+    scratch: &mut Scratch,
 ) -> Option<Bound>
+    requires front { IsPrefix (stated_lists model.now) lists.now }
+    requires count { stated ≡ length (stated_lists model.now) }
+    requires within { stated ≤ length lists.now }
     requires inside { IsInside (root_of model.now) bounds.now }
-    requires known { stated ≤ length lists.now }
     ensures { MatchOption result
-        (IsUnlisted model.now lists.now stated aim.now best.now bounds.now)
-        (λ bound. IsPastList model.now lists.now stated aim.now best.now bounds.now bound.by bound.least) }
+        (IsUnlisted model.now aim.now best.now bounds.now)
+        (λ bound. IsPastList model.now lists.now aim.now best.now bounds.now bound.by bound.least) }
 {
     for place in 0..stated {
-        match number_of(model, bounds, &lists[place as usize]) {
-            Some(least) => {
-                if is_past(aim, best, &least) {
-                    return Some(Bound { by: place, least });
-                }
-            }
+        match past_list(model, lists, place, aim, best, bounds, scratch) {
+            Some(bound) => return Some(bound),
             None => {}
         }
     }
@@ -129,12 +188,14 @@ pub fn closing_kind(
     stated: u32,
     goal: &Goal<'_>,
     bounds: &BoxOf,
+    scratch: &mut Scratch,
 ) -> Option<Kind>
     requires under { IsUnder (root_of model.now) bounds.now }
-    requires stated { AreStated search.now stated }
+    requires stated { AreStated model.now search.now stated }
+    requires table { stated ≤ length search.now.tree.lists }
     requires fit { IsFitFor model.now goal.now }
     ensures { MatchOption result
-        (IsUnclosed model.now search.now stated goal.now bounds.now)
+        (IsUnclosed model.now search.now goal.now bounds.now)
         (λ kind. ClosesAs model.now search.now goal.now bounds.now kind) }
 {
     match closed(model, bounds) {
@@ -150,6 +211,7 @@ pub fn closing_kind(
                     &aim,
                     search.best(),
                     bounds,
+                    scratch,
                 ) {
                     Some(bound) => Some(Kind::Bounded(bound)),
                     None => None,
@@ -160,7 +222,7 @@ pub fn closing_kind(
 }
 
 /// A place where the box can be split, if it has more than one point.
-pub fn wide_place(bounds: &BoxOf) -> Option<(VarId, i64)>
+fn wide_place(bounds: &BoxOf) -> Option<(VarId, i64)>
     requires { length bounds.now < 2 ^ 32 }
     ensures some { IfSome result (λ r. CanSplit bounds.now r.0 r.1) }
     ensures none { IfNone result ((j : ℕ) → ¬ CanSplit bounds.now j (range_at bounds.now j).0) }
@@ -173,4 +235,36 @@ pub fn wide_place(bounds: &BoxOf) -> Option<(VarId, i64)>
         }
     }
     None
+}
+
+/// The place of a hint where the box can be split there, else another such place.
+fn hinted_place(hint: &Option<(VarId, i64)>, bounds: &BoxOf) -> Option<(VarId, i64)>
+    requires { length bounds.now < 2 ^ 32 }
+    ensures some { IfSome result (λ r. CanSplit bounds.now r.0 r.1) }
+    ensures none { IfNone result ((j : ℕ) → ¬ CanSplit bounds.now j (range_at bounds.now j).0) }
+{
+    match hint {
+        Some(place) => {
+            if bounds.can_split(place.0, place.1) {
+                return Some(*place);
+            }
+        }
+        None => {}
+    }
+    wide_place(bounds)
+}
+
+/// A place where the box can be split, if it has more than one point.
+pub fn split_place(
+    model: &Model,
+    search: &Search,
+    goal: &Goal<'_>,
+    bounds: &BoxOf,
+) -> Option<(VarId, i64)>
+    requires { length bounds.now < 2 ^ 32 }
+    ensures some { IfSome result (λ r. CanSplit bounds.now r.0 r.1) }
+    ensures none { IfNone result ((j : ℕ) → ¬ CanSplit bounds.now j (range_at bounds.now j).0) }
+{
+    let hint = place_hint(model, &aim_of(goal), search.best(), bounds);
+    hinted_place(&hint, bounds)
 }

@@ -4,13 +4,17 @@
 mod agenda;
 mod closers;
 mod goals;
+mod hints;
 mod optima;
+mod search_laws;
 #[cfg(test)]
 mod search_tests;
+mod starting;
 mod states;
 mod steps;
 
 pub use goals::{Goal, Stepped};
 pub use optima::{OptEnd, optimize};
+pub use search_laws::{searches_are_small, steps_fall};
 pub use states::State;
 pub use steps::step;

@@ -91,9 +91,9 @@ fn terms(alloc: Global, given: &[i128; 3]) -> Result<Items<(VarId, i128)>, Alloc
     Ok(Items::from_vec(items))
 }
 
-fn bounds(alloc: Global, bound: i64) -> Result<Items<Option<i64>>, AllocError> {
+fn bounds(alloc: Global, count: u32, bound: i64) -> Result<Items<Option<i64>>, AllocError> {
     let mut items = Vec::new(alloc);
-    for _ in 0..3 {
+    for _ in 0..count {
         items.push(Some(bound))?;
     }
     Ok(Items::from_vec(items))
@@ -112,8 +112,8 @@ fn rows(alloc: Global, case: &Case) -> Result<Items<Row>, AllocError> {
 
 fn parts(alloc: Global, case: &Case) -> Result<ModelParts, AllocError> {
     let cost = terms(alloc, &case.0)?;
-    let lower = bounds(alloc, 0)?;
-    let upper = bounds(alloc, 1)?;
+    let lower = bounds(alloc, 3, 0)?;
+    let upper = bounds(alloc, 3, 1)?;
     let rows = rows(alloc, case)?;
     Ok(ModelParts {
         maximize: false,
@@ -132,16 +132,67 @@ fn parts(alloc: Global, case: &Case) -> Result<ModelParts, AllocError> {
 /// Whether the run ends as it should, with that value as its best.
 fn ends(alloc: Global, case: &Case) -> Result<bool, Fail> {
     let parts = parts(alloc, case)?;
+    Ok(ends_with(alloc, parts, case.4, case.5, &case.6))
+}
+
+fn ends_with(
+    alloc: Global,
+    parts: ModelParts,
+    limit: u32,
+    expected: OptEnd,
+    best: &Option<i128>,
+) -> bool {
     let Ok(model) = Model::build(alloc, parts) else {
-        return Ok(false);
+        return false;
     };
     let Ok(mut state) = State::new(alloc, model) else {
-        return Ok(false);
+        return false;
     };
-    let Ok(end) = optimize(&mut state, case.4) else {
-        return Ok(false);
+    let Ok(end) = optimize(&mut state, limit) else {
+        return false;
     };
-    Ok(end == case.5 && best_value(&state) == case.6)
+    end == expected && best_value(&state) == *best
+}
+
+/// Each of 31 variables with this coefficient.
+fn equal_terms(alloc: Global, coefficient: i128) -> Result<Items<(VarId, i128)>, AllocError> {
+    let mut items = Vec::new(alloc);
+    for place in 0..31 {
+        items.push((VarId::new(place), coefficient))?;
+    }
+    Ok(Items::from_vec(items))
+}
+
+/// The row that twice the sum of 31 variables is at most 31.
+fn half_row(alloc: Global) -> Result<Items<Row>, AllocError> {
+    let terms = equal_terms(alloc, 2)?;
+    let mut items = Vec::new(alloc);
+    items.push(Row {
+        terms,
+        lo: None,
+        hi: Some(31),
+    })?;
+    Ok(Items::from_vec(items))
+}
+
+/// The greatest sum of 31 binaries, twice of which is at most 31.
+fn half_parts(alloc: Global) -> Result<ModelParts, AllocError> {
+    let cost = equal_terms(alloc, -1)?;
+    let lower = bounds(alloc, 31, 0)?;
+    let upper = bounds(alloc, 31, 1)?;
+    let rows = half_row(alloc)?;
+    Ok(ModelParts {
+        maximize: true,
+        scale: 0,
+        constant: 0,
+        cost,
+        lower,
+        upper,
+        semi: Items::new(alloc),
+        rows,
+        indicators: Items::new(alloc),
+        sos: Items::new(alloc),
+    })
 }
 
 /// The value of the best point.
@@ -157,6 +208,13 @@ fn best_value(state: &State) -> Option<i128> {
         }
         None => None,
     }
+}
+
+#[test]
+fn stated_lists_close_most_leaves(rt: HostRuntime) -> Result<(), Fail> {
+    let parts = half_parts(rt.alloc())?;
+    assert!(rt; ends_with(rt.alloc(), parts, 1000, OptEnd::Optimal, &Some(-15)));
+    Ok(())
 }
 
 #[test]

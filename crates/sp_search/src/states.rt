@@ -2,16 +2,17 @@
 
 ghost use Rattle.std.specs.Prelude.{◌≡◌, ◌↔◌, ◌^◌, ◌<◌, [], count_by, length, true, IfOk, IfSome, IsNone};
 ghost use Rattle.sp_filter.specs.Held.{FilterList};
-ghost use Rattle.sp_model.specs.Models.{root_of};
 ghost use Rattle.sp_list.specs.declared.found.Found.{Found as FoundOf};
 ghost use Rattle.sp_cover.specs.Cover.{IsBest};
 ghost use Rattle.sp_tree.specs.Laws.{Extends};
 ghost use Rattle.sp_tree.specs.Trees.{is_held, is_reopened};
-ghost use Rattle.sp_cover.specs.Moves.{moved_to, new_search, reopened_tree};
-ghost use Rattle.sp_search.specs.States.{IsCovered, IsState, with_search};
+ghost use Rattle.sp_cover.specs.Moves.{moved_to, reopened_tree};
+ghost use Rattle.sp_search.specs.States.{IsCovered, IsState, first_search, with_search};
 ghost use Rattle.sp_search.specs.Runs.{IsFirstBest};
 
-use sp_cover::{Search, found_points_are_few, screens_last, searches_last};
+use crate::starting::{begun, stated_count};
+use sp_bound::Scratch;
+use sp_cover::{Search, found_points_are_few};
 use sp_filter::Filters;
 use sp_list::Found;
 use sp_model::{Model as IntegerModel, NoMemory};
@@ -19,14 +20,15 @@ use sp_tree::Tree;
 use std::alloc::Global;
 use std::marker::Model;
 
-/// A search of a model, with the model. Contracts see the model, the search, and how many lists at the front of the tree's
-/// table are asked at each step.
+/// A search of a model, with the model. Contracts see the model, the search, and how many stated lists stand first in the
+/// tree's table.
 #[derive(Drop)]
 pub struct State {
     pub(crate) alloc: Global,
     pub(crate) model: IntegerModel,
     pub(crate) search: Search,
     pub(crate) stated: u32,
+    pub(crate) scratch: Scratch,
 }
 
 impl Model for State {
@@ -40,22 +42,23 @@ impl Model for State {
 }
 
 impl State {
-    /// A search of the model that has not begun: a tree of one open leaf, which is the model's closed box, and nothing found.
+    /// A search of the model that has not begun: a tree of one open leaf, which is the model's closed box, the
+    /// stated lists first in the table, and nothing found.
     pub fn new(alloc: Global, model: IntegerModel) -> Result<State, NoMemory>
         ensures model { IfOk result (λ s. s.model ≡ model) }
-        ensures search { IfOk result (λ s. s.search ≡ new_search (root_of model)) }
+        ensures search { IfOk result (λ s. s.search ≡ first_search model) }
         ensures covered { (fs : FilterList) → IfOk result (λ s. IsCovered fs s) }
     {
-        searches_last();
-        screens_last();
-        let root = model.root(alloc)?;
-        let search = Search::new(alloc, root)?;
-        let _lists = search.tree().multipliers();
+        let search = begun(alloc, &model)?;
+        let stated = stated_count(&model, &search);
+        let scratch = Scratch::new(alloc, &model)?;
+        let _parts = model.parts();
         Ok(State {
             alloc,
             model,
             search,
-            stated: 1,
+            stated,
+            scratch,
         })
     }
 
@@ -91,7 +94,7 @@ impl State {
         self.search.is_proved()
     }
 
-    /// How many lists at the front of the tree's table are asked at each step.
+    /// How many stated lists the model has: they stand first in the tree's table, in their order.
     pub fn stated(&self) -> u32
         ensures stated { result ≡ self.now.stated }
         ensures state { IsState self.now }

@@ -13,10 +13,11 @@ ghost use Rattle.sp_search.specs.InnerSteps.{AreSingle, IsDone, IsOnly, IsReady,
 ghost use Rattle.sp_search.specs.States.{IsCovered, IsState, with_search};
 ghost use Rattle.sp_search.specs.Steps.{AreGoalFilters, FitsGoal, IsUnclosed, Steps};
 
-use crate::closers::{closing_kind, wide_place};
+use crate::closers::{closing_kind, split_place};
 use crate::goals::{Goal, Stepped};
 use crate::states::State;
 use sp_activity::open_points_are_feasible;
+use sp_bound::Scratch;
 use sp_cover::{Search, found_points_are_few};
 use sp_list::Found;
 use sp_model::{BoxOf, Model, NoMemory, Point, VarId, root_is_short, split_divides_count};
@@ -60,9 +61,9 @@ fn find_only(
     node_limit: u32,
 ) -> Result<Stepped, NoMemory>
     requires ready { IsReady model.now search.old stated bounds.now node goal.now }
-    requires unclosed { IsUnclosed model.now search.old stated goal.now bounds.now }
+    requires unclosed { IsUnclosed model.now search.old goal.now bounds.now }
     requires single { AreSingle bounds.now }
-    ensures done { IsDone model.now search.old search.new stated goal.now node node_limit result }
+    ensures done { IsDone model.now search.old search.new goal.now node node_limit result }
     ensures screened { (fs : FilterList) → AreGoalFilters goal.now fs → AreScreened fs search.old.tree
         → AreScreened fs search.new.tree }
 {
@@ -87,9 +88,9 @@ fn split_wide(
     node_limit: u32,
 ) -> Result<Stepped, NoMemory>
     requires ready { IsReady model.now search.old stated bounds.now node goal.now }
-    requires unclosed { IsUnclosed model.now search.old stated goal.now bounds.now }
+    requires unclosed { IsUnclosed model.now search.old goal.now bounds.now }
     requires lawful { CanSplit bounds.now place.now.0 place.now.1 }
-    ensures done { IsDone model.now search.old search.new stated goal.now node node_limit result }
+    ensures done { IsDone model.now search.old search.new goal.now node node_limit result }
     ensures screened { (fs : FilterList) → AreGoalFilters goal.now fs → AreScreened fs search.old.tree
         → AreScreened fs search.new.tree }
 {
@@ -108,6 +109,7 @@ fn advance(
     model: &Model,
     search: &mut Search,
     stated: u32,
+    scratch: &mut Scratch,
     bounds: &BoxOf,
     node: NodeId,
     goal: &Goal<'_>,
@@ -115,16 +117,16 @@ fn advance(
 ) -> Result<Stepped, NoMemory>
     requires ready { IsReady model.now search.old stated bounds.now node goal.now }
     requires short { length bounds.now < 2 ^ 32 }
-    ensures done { IsDone model.now search.old search.new stated goal.now node node_limit result }
+    ensures done { IsDone model.now search.old search.new goal.now node node_limit result }
     ensures screened { (fs : FilterList) → AreGoalFilters goal.now fs → AreScreened fs search.old.tree
         → AreScreened fs search.new.tree }
 {
-    match closing_kind(model, search, stated, goal, bounds) {
+    match closing_kind(model, search, stated, goal, bounds, scratch) {
         Some(kind) => {
             search.close(node, kind);
             Ok(Stepped::Closed)
         }
-        None => match wide_place(bounds) {
+        None => match split_place(model, search, goal, bounds) {
             None => find_only(alloc, model, search, stated, bounds, node, goal, node_limit),
             Some(place) => split_wide(
                 model, search, stated, bounds, node, goal, &place, node_limit,
@@ -139,6 +141,7 @@ fn work(
     model: &Model,
     search: &mut Search,
     stated: u32,
+    scratch: &mut Scratch,
     node: NodeId,
     goal: &Goal<'_>,
     node_limit: u32,
@@ -154,7 +157,7 @@ fn work(
     trees_divide();
     let bounds = search.tree().box_of(node)?;
     let stepped = advance(
-        alloc, model, search, stated, &bounds, node, goal, node_limit,
+        alloc, model, search, stated, scratch, &bounds, node, goal, node_limit,
     )?;
     search.settle();
     Ok(stepped)
@@ -173,7 +176,7 @@ pub fn step(
 
     // What the answer says was done with this leaf, and nothing else.
     ensures steps { IfOk result (λ stepped.
-        Steps state.old.model state.old.search state.new.search state.old.stated goal.now node node_limit stepped) }
+        Steps state.old.model state.old.search state.new.search goal.now node node_limit stepped) }
     ensures rest { state.new ≡ with_search state.old state.new.search }
     ensures phase { state.new.search.proved ≡ true
         → (state.old.search.proved ≡ true) ⊎ IsShut state.new.search.tree.nodes }
@@ -191,6 +194,7 @@ pub fn step(
         &state.model,
         &mut state.search,
         state.stated,
+        &mut state.scratch,
         node,
         goal,
         node_limit,

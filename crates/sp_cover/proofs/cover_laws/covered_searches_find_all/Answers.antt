@@ -15,6 +15,7 @@ sound c m lawful = record {
   inside = λ x feasible. c.feasible_is_within.ensures m x lawful feasible;
   dead = λ b r x holds held. c.reasons_are_true.ensures m b r x holds held;
   spanned = c.sums_lie_between.ensures;
+  bounded = λ b list x v formed inside keeps number. c.bounds_are_sound.ensures m b list x v lawful formed inside keeps number;
   divides = divides c;
 }
 

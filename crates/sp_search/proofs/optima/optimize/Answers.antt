@@ -22,7 +22,7 @@ returns-then-is_full-clause-roomy c = λ big e.
     let s = c.loop-node.state in
     let leaf : IsOpenAt s.search.tree.nodes c.in-Some.node = rw (← c.tree.ensures.tree) c.in-Some.ensures.found in
     let is : c.in_ok-stepped.stepped ≡ Full = c.if-is_full.ensures.0 refl in
-    let full = full-of s.model s.search c.step.new.state.search s.stated Improve c.in-Some.node c.args.node_limit c.in_ok-stepped.stepped is c.in_ok-stepped.ensures.steps in
+    let full = full-of s.model s.search c.step.new.state.search Improve c.in-Some.node c.args.node_limit c.in_ok-stepped.stepped is c.in_ok-stepped.ensures.steps in
     let same : s.model ≡ c.args.state.now.model = model-stays c.args.state.now s c.loop-node.invariant.run.rest in
     stuck-small counts s Improve c.args.node_limit c.loop-node.invariant.state (full-stuck s Improve c.in-Some.node c.args.node_limit leaf full) (rw same big)
 
@@ -32,7 +32,7 @@ loop-node-smaller c =
     let s = c.loop-node.state in
     let leaf : IsOpenAt s.search.tree.nodes c.in-Some.node = rw (← c.tree.ensures.tree) c.in-Some.ensures.found in
     let go : c.in_ok-stepped.stepped ≢ Full = λ e. false≢true (c.if-is_full.ensures.1 e) in
-    step-falls counts s.model s.search c.step.new.state.search s.stated Improve c.in-Some.node c.args.node_limit c.in_ok-stepped.stepped c.loop-node.invariant.state.search.grown leaf go c.in_ok-stepped.ensures.steps
+    step-falls counts s.model s.search c.step.new.state.search Improve c.in-Some.node c.args.node_limit c.in_ok-stepped.stepped c.loop-node.invariant.state.search.grown leaf go c.in_ok-stepped.ensures.steps
 
 pub loop-node-preserved : goal.loop-node-preserved
 loop-node-preserved c =

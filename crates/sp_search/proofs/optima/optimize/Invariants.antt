@@ -3,7 +3,7 @@ use Rattle.sp_filter.specs.Held.{FilterList}
 use Rattle.sp_cover.specs.Cover.{IsOpenAt}
 use Rattle.sp_search.specs.Runs.{IsRun}
 use Rattle.sp_search.specs.States.{IsCovered, IsState}
-use Rattle.sp_search.proofs.MeasureLemmas.{open_room}
+use Rattle.sp_search.specs.Measures.{open_room}
 use Rattle.sp_search.proofs.optima.optimize.Given as goal
 
 abbrev pub invariant-loop-node : goal.invariant-loop-node

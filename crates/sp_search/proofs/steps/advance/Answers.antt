@@ -8,7 +8,7 @@ use Rattle.sp_search.proofs.steps.advance.Goals as goal
 
 pub find_only-requires-clause-single : goal.find_only-requires-clause-single
 find_only-requires-clause-single c =
-    single-from c.args.bounds.now (unreasoned-filled c.args.model.now c.args.bounds.now c.in-None.ensures.unreasoned) c.in-None-wide_place.ensures.none
+    single-from c.args.bounds.now (unreasoned-filled c.args.model.now c.args.bounds.now c.in-None.ensures.unreasoned) c.in-None-split_place.ensures.none
 
 pub returns-in-Some-clause-done : goal.returns-in-Some-clause-done
 returns-in-Some-clause-done c =

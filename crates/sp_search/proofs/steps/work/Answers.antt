@@ -5,7 +5,7 @@ use Rattle.sp_tree.specs.Laws.{Extends}
 use Rattle.sp_tree.specs.Splits.{box_at}
 use Rattle.sp_cover.specs.Cover.{IsShut, SearchOf}
 use Rattle.sp_search.specs.InnerSteps.{IsStep}
-use Rattle.sp_search.proofs.StepLemmas.{node-under, steps-settled}
+use Rattle.sp_search.proofs.StepLemmas.{node-under, stated-known, stated-last, steps-settled}
 use Rattle.sp_search.proofs.steps.work.Goals as goal
 
 shut-there : (mid new : SearchOf) → new.tree ≡ mid.tree → IsShut mid.tree.nodes → IsShut new.tree.nodes
@@ -23,6 +23,7 @@ advance-requires-clause-ready c =
       lawful = c.requires.state.lawful;
       search = c.requires.state.search;
       lists = c.requires.state.stated;
+      table = stated-known c.args.model.now c.args.search.now c.args.stated c.requires.state.stated;
       leaf = c.requires.known;
       in_hand = hand c;
       under = under c;
@@ -42,14 +43,15 @@ returns-clause-worked c =
     let old = c.args.search.now in
     let mid = c.advance.new.search in
     let new = c.settle.new.self in
-    let done : IsStep m old mid c.args.stated c.args.goal.now c.args.node c.args.node_limit c.in_ok-stepped.stepped = c.in_ok-stepped.ensures.done in
+    let done : IsStep m old mid c.args.goal.now c.args.node c.args.node_limit c.in_ok-stepped.stepped = c.in_ok-stepped.ensures.done in
     let trees : new.tree ≡ mid.tree = ap (λ s. s.tree) c.settle.ensures.rest in
     let extends : Extends old.tree new.tree = rw trees done.extends in
     record {
-      steps = steps-settled m old mid new c.args.stated c.args.goal.now c.args.node c.args.node_limit c.in_ok-stepped.stepped done.steps c.settle.ensures.rest
+      steps = steps-settled m old mid new c.args.goal.now c.args.node c.args.node_limit c.in_ok-stepped.stepped done.steps c.settle.ensures.rest
           (λ e. c.settle.ensures.still_open c.args.node (rw e c.requires.known));
       search = c.settle.ensures.search m c.requires.state.lawful done.search;
       ended = c.settle.ensures.ended;
       phase = λ e. elim (c.settle.ensures.phase e) [ inl was ↦ inl (sym done.phase ∙ was) | inr shut ↦ inr (shut-there mid new trees shut) ];
       extends = extends;
+      lists = stated-last m old new c.args.stated c.requires.state.stated extends.table;
     }

@@ -1,0 +1,16 @@
+pub mod CutLemmas
+pub mod SettledLemmas
+pub mod StayLemmas
+pub mod KeepLemmas
+pub mod CollectLemmas
+pub mod ReopenLemmas
+pub mod PhaseLemmas
+pub mod EndLemmas
+pub mod RoomLemmas
+pub mod TestLemmas
+pub mod MemberLemmas
+pub mod OrderLemmas
+pub mod ListLemmas
+pub mod FilteredLemmas
+pub mod NarrowLemmas
+pub mod SortLemmas

@@ -1,0 +1,5 @@
+pub mod Complete
+pub mod Ends
+pub mod InnerEnds
+pub mod Listings
+pub mod InnerLists

@@ -1,0 +1,13 @@
+//! Phase two of a search: all points within the cut that pass the filters, the list of them, and the n best.
+#![tactic(auto)]
+
+mod cuts;
+mod leaves;
+mod listing;
+mod populate_laws;
+mod populating;
+
+pub use cuts::present_cut;
+pub use listing::{ListRefusal, list};
+pub use populate_laws::{lists_are_filtered, lists_without_filters};
+pub use populating::{PopEnd, populate};

@@ -1,10 +1,12 @@
-//! Phase two of a search: all points within the cut that pass the filters, the list of them, and the n best.
+//! Phase two of a search: all points within the cut that pass the filters, and the list of them.
 #![tactic(auto)]
 
 mod cuts;
 mod leaves;
 mod listing;
 mod populate_laws;
+#[cfg(test)]
+mod populate_tests;
 mod populating;
 
 pub use cuts::present_cut;

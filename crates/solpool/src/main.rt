@@ -1,4 +1,4 @@
-//! `solpool`: lists the optimal solutions of a pure integer program that a model file states.
+//! `solpool`: lists the solutions of a pure integer program within a gap of its optimum, as a model file states it.
 #![tactic(auto)]
 
 mod inputs;

@@ -1,6 +1,4 @@
-mod WalkLemmas
-mod SolveLemmas
-mod ListLemmas
+mod FirstRunLemmas
 mod FaultLemmas
 mod ModelLemmas
 mod MeaningLemmas

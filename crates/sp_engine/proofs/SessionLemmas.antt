@@ -1,14 +1,17 @@
--- Which notes of a journal are the first command's.
-use Rattle.std.proofs.Common.{◌≡◌, ℕ, suc, List, [], ◌∷◌, ◌++◌, length, Option, None, Some, refl, sym, ap, ◌∙◌}
+-- Which notes of a journal are the first command's, and when a list comes.
+use Rattle.std.proofs.Common.{◌≡◌, ◌≤◌, subst, true, arith, ℕ, suc, List, [], ◌∷◌, ◌++◌, length, Option, None, Some, refl, sym, ap, ◌∙◌}
 use Rattle.std.specs.Prelude.{ℤ}
 use Rattle.sp_engine.specs.declared.commands.Command.{Command}
 use Rattle.sp_engine.specs.declared.commands.Command.TheVariants as command
 use Rattle.sp_engine.specs.declared.journals.Entry.{Entry}
 use Rattle.sp_engine.specs.declared.journals.RunEnd.{RunEnd}
+use Rattle.sp_engine.specs.declared.journals.RunEnd.TheVariants as end
 use Rattle.sp_engine.specs.declared.replies.Reply.{Reply}
+use Rattle.sp_engine.specs.LegalRuns.{room_of}
+use Rattle.sp_engine.specs.Replies.{is_listed}
 use Rattle.sp_engine.specs.Notes.{run_notes}
 use Rattle.sp_engine.specs.Sessions.{Says, end_of_run, share_of}
-use Rattle.sp_engine.specs.Listing.{SaysList}
+use Rattle.sp_engine.specs.Listing.{ListsModel, RepliesAfter, SaysList}
 use Rattle.sp_engine.specs.declared.models.NamedModel.{NamedModel}
 use Rattle.sp_engine.specs.Views.{View}
 
@@ -24,3 +27,18 @@ one_division view after command.List notes rest r says = by view.model says
     by : (model : Option NamedModel) → SaysList model view notes r after → end_of_run (notes ++ rest) ≡ length notes
     by None lists = absurd lists
     by (Some named) lists = ap (λ es. end_of_run (es ++ rest)) lists.noted ∙ run_ends lists.found lists.ended lists.nodes rest ∙ sym (ap length lists.noted)
+
+-- with room for the model's largest tree nothing stops the run
+roomy : (view after : View) (named : NamedModel) (notes : List Entry) (r : Reply) → ListsModel named view notes r after → room_of named.model ≤ view.settings.node_limit → is_listed r ≡ true
+roomy view after named notes r lists room = by lists.ended refl lists.reply_is
+  where
+    by : (e : RunEnd) → lists.ended ≡ e → RepliesAfter e named lists.nodes after r → is_listed r ≡ true
+    by end.Done e h = ap is_listed h.reply_is
+    by end.NodeLimit e h = absurd (let needed = (lists.legal.stopped e).needed in omega (arith, needed, room))
+    by end.Optimal e h = absurd h
+    by end.Infeasible e h = absurd h
+    by end.PopulateLimit e h = absurd h
+
+pub roomy_list : (view after : View) (named : NamedModel) (notes : List Entry) (r : Reply) → view.model ≡ Some named → Says view command.List notes r after → room_of named.model ≤ view.settings.node_limit
+    → is_listed r ≡ true
+roomy_list view after named notes r model says room = roomy view after named notes r (subst (λ m. SaysList m view notes r after) model says) room

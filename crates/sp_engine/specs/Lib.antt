@@ -10,6 +10,5 @@ pub mod ReadEnds
 pub mod Listing
 pub mod Runs
 pub mod Sessions
-pub mod InnerSolving
-pub mod InnerWalk
+pub mod InnerRuns
 pub mod InnerModels

@@ -1,5 +1,5 @@
 -- What the command that lists the solutions says.
-use Rattle.std.specs.Prelude.{◌≡◌, ℕ, zero, suc, ◌≤◌, List, [], ◌∷◌, ◌++◌, length, map, All, Option, None, Some, ℤ}
+use Rattle.std.specs.Prelude.{◌≡◌, ℕ, ◌≤◌, List, ◌++◌, length, map, All, Option, None, Some, ℤ}
 use Rattle.sp_engine.specs.declared.journals.Entry.{Entry}
 use Rattle.sp_engine.specs.declared.journals.RunEnd.{RunEnd}
 use Rattle.sp_engine.specs.declared.journals.RunEnd.TheVariants as end
@@ -14,11 +14,6 @@ use Rattle.sp_engine.specs.Views.{View, point_of}
 -- the data after a run that found these points
 abbrev pub after_run : View → List (List ℤ) → ℕ → View
 after_run view found nodes = record view { found = view.found ++ found; nodes = nodes }
-
--- so many serials from the first on
-abbrev pub serials_from : ℕ → ℕ → List ℕ
-serials_from first zero = []
-serials_from first (suc count) = first ∷ serials_from (suc first) count
 
 -- a serial of one of so many points
 pub record IsSerial (count : ℕ) (serial : ℕ) : Type 0 where

@@ -12,6 +12,9 @@ pub record Settings : Type 0 where
   -- the most nodes that a tree may have
   pub node_limit : ℕ
 
+abbrev pub settings_with : Gaps → ℕ → Settings
+settings_with gaps limit = record { gaps = gaps; node_limit = limit }
+
 -- a filter tells which points it lets pass
 abbrev pub Filter : Type 0
 Filter = List ℤ → Bool

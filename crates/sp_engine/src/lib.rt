@@ -11,8 +11,6 @@ mod refusing;
 mod replies;
 mod runs;
 mod session_laws;
-mod solving;
-mod walks;
 
 pub use commands::Command;
 pub use formats::{FileFormat, format_of};
@@ -21,4 +19,4 @@ pub use models::NamedModel;
 pub use reading::{ReadEnd, read};
 pub use replies::{Refusal, Reply};
 pub use runs::{Listing, list};
-pub use session_laws::{files_mean_one_thing, journal_is_divided_in_one_way};
+pub use session_laws::{files_mean_one_thing, journal_is_divided_in_one_way, roomy_runs_list_all};

@@ -76,7 +76,7 @@ pub enum Reply {
         optimum: Option<i128>,
         /// The serials of the listed points, in the list's order. The points that were found since the last accepted
         /// read count from 1.
-        serials: Items<usize>,
+        serials: Items<u32>,
     },
     /// The node limit stopped the run.
     Stopped {

@@ -2,7 +2,7 @@
 use Rattle.std.proofs.Common.{◌≡◌, ◌≢◌, ◌↔◌, ℕ, ◌+◌, ◌<◌, ◌≤◌, Bool, true, false, if◌then◌else◌, None, List, length, Result, Ok, Err, IfOk, OnOk, ℤ, refl, sym, ap, ◌∙◌, arith}
 use Rattle.std.proofs.lemmas.Bool.{false≢true}
 use Rattle.sp_model.specs.declared.gaps.Gaps.{Gaps}
-use Rattle.sp_model.specs.declared.memory.NoMemory.{NoMemory}
+use Rattle.sp_model.specs.declared.no_memory.NoMemory.{NoMemory}
 use Rattle.sp_filter.specs.Held.{FilterList}
 use Rattle.sp_tree.specs.declared.nodes.Node.{Node}
 use Rattle.sp_tree.specs.declared.nodes.Kind.{Kind}

@@ -1,6 +1,6 @@
 -- What private functions of a step say.
 use Rattle.std.specs.Prelude.{◌≡◌, ◌⊎◌, ℕ, ◌<◌, ◌≤◌, true, Option, Some, List, Result, Ok, Err, length, ℤ}
-use Rattle.sp_model.specs.declared.memory.NoMemory.{NoMemory}
+use Rattle.sp_model.specs.declared.no_memory.NoMemory.{NoMemory}
 use Rattle.sp_model.specs.declared.parts.ModelParts.{ModelParts}
 use Rattle.sp_model.specs.Boxes.{Bounds, range_at}
 use Rattle.sp_model.specs.Models.{Feasible, objective, root_of}

@@ -1,7 +1,7 @@
 -- What went out and was noted when a run ends.
 use Rattle.std.specs.Prelude.{ℤ, flat_map, map, filter, count_by, slice_index_or, All, Bool, true, false, IsTrue, Result, Ok, Err}
 use Rattle.std.specs.List.{list_all, AllByRecursion}
-use Rattle.std.proofs.Common.{◌≡◌, ℕ, zero, suc, ◌<◌, ◌≤◌, List, [], ◌∷◌, ◌++◌, length, Option, None, Some, refl, sym, ap, ◌∙◌, subst, inl, inr, arith}
+use Rattle.std.proofs.Common.{◌≡◌, ℕ, zero, suc, ◌<◌, ◌≤◌, List, [], ◌∷◌, ◌++◌, length, Option, None, Some, refl, sym, ap, ◌∙◌, subst, ◌⊎◌, inl, inr, arith}
 use Rattle.std.proofs.lemmas.List.{append-nil, length-map}
 use Rattle.std.proofs.lemmas.List.Elements.{All-from_recursion, filter-append, recursion_from_All}
 use Rattle.std.proofs.lemmas.List.Sums.{length-filter}
@@ -17,6 +17,10 @@ use Rattle.sp_base.specs.Writing.{Puts, SinkState}
 use Rattle.sp_model.specs.declared.parts.ModelParts.{ModelParts}
 use Rattle.sp_model.specs.Boxes.{IsWithin}
 use Rattle.sp_model.specs.Models.{root_of, Feasible}
+use Rattle.sp_args.specs.declared.requests.Request.{Request}
+use Rattle.sp_args.specs.declared.requests.WordsRefusal.{WordsRefusal}
+use Rattle.sp_args.specs.declared.requests.WordsRefusal.TheVariants as refused
+use Rattle.sp_args.specs.Requests.{IsReading, IsNoReading}
 use Rattle.sp_engine.specs.declared.formats.FileFormat.{FileFormat}
 use Rattle.sp_engine.specs.declared.journals.Entry.{Entry}
 use Rattle.sp_engine.specs.declared.journals.Entry.TheVariants as entry
@@ -31,21 +35,21 @@ use Rattle.sp_engine.specs.declared.replies.Reply.{Reply}
 use Rattle.sp_engine.specs.declared.replies.Reply.TheVariants as reply
 use Rattle.sp_engine.specs.declared.runs.Listing.{Listing}
 use Rattle.sp_engine.specs.Formats.{format_of}
-use Rattle.sp_engine.specs.LegalRuns.{first_settings}
 use Rattle.sp_engine.specs.Listing.{IsSerial, ListsModel, RepliesAfter, after_run}
 use Rattle.sp_engine.specs.Notes.{AreAnswers, ShelfState, answer_of, is_answer, is_absence, is_overrun, is_fault, run_notes}
 use Rattle.sp_engine.specs.ReadEnds.{ReadSays, bytes_notes}
 use Rattle.sp_engine.specs.Reading.{SaysRead, WantsInRead, fetched_more, with_model}
 use Rattle.sp_engine.specs.Replies.{is_refused}
 use Rattle.sp_engine.specs.Runs.{IsListing}
-use Rattle.sp_engine.specs.Views.{View, begun, point_of, read_limit}
+use Rattle.sp_engine.specs.Views.{Settings, View, begun, point_of, read_limit}
 use Rattle.sp_shell.specs.declared.wordings.Wording.TheVariants as wording
 use Rattle.sp_shell.specs.Wording.{spelling}
 use Rattle.sp_draft.specs.SolutionLines.{solution_line}
 use Rattle.sp_shell.specs.Replies.{done_head, listed_text, refusal_text, reply_text}
-use Rattle.sp_shell.specs.Runs.{IsFileRun, IsOtherFile, IsUsage, ModelFile, OtherFile, Outcome, RunText, RunUnsaid, asked, asked_by_format, asked_by_word, file_word, status_by}
+use Rattle.sp_shell.specs.Runs.{IsFileRun, Outcome, RequestText, RunText, RunUnsaid, Saying, Unsaid, settings_of, status_by}
+use Rattle.sp_shell.specs.Runs as run
 use Rattle.sp_shell.specs.InnerEndings.{status_after, Answered, Ended, IsWhole}
-use Rattle.sp_shell.specs.InnerReplies.{AreNoted, CanPrint, IsPrintable, entry_line, printed_text, serial_line}
+use Rattle.sp_shell.specs.InnerReplies.{AreNoted, CanPrint, IsPrintable, entry_line, named_of, printed_text, serial_line}
 use Rattle.sp_shell.specs.InnerRuns.{IsRead, OwnNotes, is_own}
 
 -- a status that comes with a whole text, and what went out
@@ -84,8 +88,8 @@ whole_by true = tt
 whole_by false = tt
 
 -- what can be noted where memory was wanting
-abbrev unsaid_of : Option Files → List ℕ → List Entry → Type 0
-unsaid_of files name = WantsInRead (begun first_settings files) name
+abbrev unsaid_of : Settings → Option Files → List ℕ → List Entry → Type 0
+unsaid_of settings files name = WantsInRead (begun settings files) name
 
 -- The list.
 
@@ -95,18 +99,22 @@ own_notes [] e nodes = refl
 own_notes (x ∷ xs) e nodes = own_notes xs e nodes
 
 -- the data after the file was read
-abbrev read_view : Option Files → List ℕ → NamedModel → View
-read_view files bytes named = with_model (fetched_more (begun first_settings files) (length bytes)) named
+abbrev read_view : Settings → Option Files → List ℕ → NamedModel → View
+read_view settings files bytes named = with_model (fetched_more (begun settings files) (length bytes)) named
+
+-- the names and the model that a listing hands back
+pub same_named : {named : NamedModel} {settings : Settings} {l : Listing} → IsListing named settings l → named_of l.names l.state.model ≡ named
+same_named i = λ j. record { names = i.names j; model = i.model j }
 
 -- what the command that lists says then
-listing_says : (files : Option Files) (bytes : List ℕ) (named : NamedModel) (l : Listing) (i : IsListing named l)
-    → ListsModel named (read_view files bytes named) l.notes.items l.reply (after_run (read_view files bytes named) i.found i.nodes)
-listing_says files bytes named l i = i.says (read_view files bytes named) refl refl refl refl
+listing_says : (settings : Settings) (files : Option Files) (bytes : List ℕ) (named : NamedModel) (l : Listing) (i : IsListing named settings l)
+    → ListsModel named (read_view settings files bytes named) l.notes.items l.reply (after_run (read_view settings files bytes named) i.found i.nodes)
+listing_says settings files bytes named l i = i.says (read_view settings files bytes named) refl refl refl refl
 
 -- the notes, whatever was read
-pub listing_notes : {named : NamedModel} {l : Listing} (first : Entry) (entries : List Entry) → IsListing named l → entries ≡ first ∷ l.notes.items → OwnNotes first entries
-listing_notes {named} {l} first entries i e =
-    let s = listing_says None [] named l i in
+pub listing_notes : {named : NamedModel} {settings : Settings} {l : Listing} (first : Entry) (entries : List Entry) → IsListing named settings l → entries ≡ first ∷ l.notes.items → OwnNotes first entries
+listing_notes {named} {settings} {l} first entries i e =
+    let s = listing_says settings None [] named l i in
     record { rest = l.notes.items; noted = e; own = ap (list_all is_own) s.noted ∙ own_notes s.found s.ended s.nodes }
 
 -- what a law of models says: a feasible point lies within the closed box
@@ -122,15 +130,15 @@ printable_notes named within (x ∷ xs) e nodes paired all = ((within x all.0, (
 same_answer : {one other : FetchNote} → entry.Fetched one ∷ [] ≡ entry.Fetched other ∷ [] → other ≡ one
 same_answer e = cc
 
-printable : {named : NamedModel} {l : Listing} → FeasibleWithin named.model → length named.names ≡ length (root_of named.model) → (answer : FetchNote) (entries : List Entry)
-    → IsListing named l → entries ≡ entry.Fetched answer ∷ l.notes.items → All (IsPrintable named) entries
-printable {named} {l} within paired answer entries i e =
+printable : {named : NamedModel} {settings : Settings} {l : Listing} → FeasibleWithin named.model → length named.names ≡ length (root_of named.model) → (answer : FetchNote) (entries : List Entry)
+    → IsListing named settings l → entries ≡ entry.Fetched answer ∷ l.notes.items → All (IsPrintable named) entries
+printable {named} {settings} {l} within paired answer entries i e =
     subst (All (IsPrintable named)) (sym (e ∙ ap (λ es. entry.Fetched answer ∷ es) s.noted))
     (All-from_recursion (IsPrintable named) (entry.Fetched answer ∷ run_notes s.found s.ended s.nodes)
     (tt, printable_notes named within s.found s.ended s.nodes paired (recursion_from_All (Feasible named.model) s.found s.legal.feasible)))
   where
-    s : ListsModel named (read_view None [] named) l.notes.items l.reply (after_run (read_view None [] named) i.found i.nodes)
-    s = listing_says None [] named l i
+    s : ListsModel named (read_view settings None [] named) l.notes.items l.reply (after_run (read_view settings None [] named) i.found i.nodes)
+    s = listing_says settings None [] named l i
 
 -- each serial of the reply is the place of a note
 places : (found : List (List ℤ)) (count : ℕ) (serials : List ℕ) → length found < count → AllByRecursion (IsSerial (length found)) serials → AllByRecursion (λ serial. serial < count) serials
@@ -150,21 +158,21 @@ notes_long : (answer : FetchNote) (found : List (List ℤ)) (e : RunEnd) (nodes 
 notes_long answer [] e nodes = omega arith
 notes_long answer (x ∷ xs) e nodes = let h : length xs < length (entry.Fetched answer ∷ run_notes xs e nodes) = notes_long answer xs e nodes in omega (arith, h)
 
-noted : {named : NamedModel} {l : Listing} (answer : FetchNote) (entries : List Entry)
-    → IsListing named l → entries ≡ entry.Fetched answer ∷ l.notes.items → AreNoted (length entries) l.reply
-noted {named} {l} answer entries i e =
+noted : {named : NamedModel} {settings : Settings} {l : Listing} (answer : FetchNote) (entries : List Entry)
+    → IsListing named settings l → entries ≡ entry.Fetched answer ∷ l.notes.items → AreNoted (length entries) l.reply
+noted {named} {settings} {l} answer entries i e =
     noted_reply s.ended named s.nodes (length entries) _ l.reply s.reply_is
-    (subst (λ es. length (after_run (read_view None [] named) i.found i.nodes).found < length es) (sym (e ∙ ap (λ es. entry.Fetched answer ∷ es) s.noted))
+    (subst (λ es. length (after_run (read_view settings None [] named) i.found i.nodes).found < length es) (sym (e ∙ ap (λ es. entry.Fetched answer ∷ es) s.noted))
     (subst (λ xs. length xs < length (entry.Fetched answer ∷ run_notes s.found s.ended s.nodes)) (sym found) (notes_long answer s.found s.ended s.nodes)))
   where
-    s : ListsModel named (read_view None [] named) l.notes.items l.reply (after_run (read_view None [] named) i.found i.nodes)
-    s = listing_says None [] named l i
+    s : ListsModel named (read_view settings None [] named) l.notes.items l.reply (after_run (read_view settings None [] named) i.found i.nodes)
+    s = listing_says settings None [] named l i
 
-    found : (after_run (read_view None [] named) i.found i.nodes).found ≡ s.found
+    found : (after_run (read_view settings None [] named) i.found i.nodes).found ≡ s.found
     found = ap (λ (v : View). v.found) s.after_is
 
-pub can_print : {named : NamedModel} {l : Listing} → FeasibleWithin named.model → length named.names ≡ length (root_of named.model) → (answer : FetchNote) (entries : List Entry)
-    → IsListing named l → entries ≡ entry.Fetched answer ∷ l.notes.items → CanPrint named entries l.reply
+pub can_print : {named : NamedModel} {settings : Settings} {l : Listing} → FeasibleWithin named.model → length named.names ≡ length (root_of named.model) → (answer : FetchNote) (entries : List Entry)
+    → IsListing named settings l → entries ≡ entry.Fetched answer ∷ l.notes.items → CanPrint named entries l.reply
 can_print within paired answer entries i e = record { small = i.small; noted = noted answer entries i e; each = printable within paired answer entries i e }
 
 -- the note of a serial is that of its point
@@ -210,21 +218,21 @@ text_fits named answer found end.PopulateLimit nodes after r model same h = absu
 -- The run of one file.
 
 -- the file was read as this model, and it was listed
-list_said : {files : Option Files} {name bytes : List ℕ} {named : NamedModel} {l : Listing} {entries : List Entry} (i : IsListing named l)
-    → IsRead files name bytes named → entries ≡ entry.Fetched (note.Bytes bytes) ∷ l.notes.items
-    → IsFileRun files name entries (printed_text named entries l.reply) (status_by (is_refused l.reply))
-list_said {files} {name} {bytes} {named} {l} {entries} i read e = record {
+list_said : {settings : Settings} {files : Option Files} {name bytes : List ℕ} {named : NamedModel} {l : Listing} {entries : List Entry} (i : IsListing named settings l)
+    → IsRead settings files name bytes named → entries ≡ entry.Fetched (note.Bytes bytes) ∷ l.notes.items
+    → IsFileRun settings files name entries (printed_text named entries l.reply) (status_by (is_refused l.reply))
+list_said {settings} {files} {name} {bytes} {named} {l} {entries} i read e = record {
   refused = is_refused l.reply;
   run = record {
     notes = entry.Fetched (note.Bytes bytes) ∷ [];
     rest = l.notes.items;
     divided = e;
     read = reply.Read (length named.names) (length named.model.rows);
-    after = read_view files bytes named;
+    after = read_view settings files bytes named;
     says = read.says;
     then_is = record {
       listed = l.reply;
-      last = after_run (read_view files bytes named) i.found i.nodes;
+      last = after_run (read_view settings files bytes named) i.found i.nodes;
       says = s;
       text_is = text;
       refused_is = refl;
@@ -233,24 +241,25 @@ list_said {files} {name} {bytes} {named} {l} {entries} i read e = record {
   status_is = refl;
 }
   where
-    s : ListsModel named (read_view files bytes named) l.notes.items l.reply (after_run (read_view files bytes named) i.found i.nodes)
-    s = listing_says files bytes named l i
+    s : ListsModel named (read_view settings files bytes named) l.notes.items l.reply (after_run (read_view settings files bytes named) i.found i.nodes)
+    s = listing_says settings files bytes named l i
 
-    found : (after_run (read_view files bytes named) i.found i.nodes).found ≡ s.found
+    found : (after_run (read_view settings files bytes named) i.found i.nodes).found ≡ s.found
     found = ap (λ (v : View). v.found) s.after_is
 
-    text : printed_text named entries l.reply ≡ reply_text (after_run (read_view files bytes named) i.found i.nodes) l.reply
+    text : printed_text named entries l.reply ≡ reply_text (after_run (read_view settings files bytes named) i.found i.nodes) l.reply
     text =
         ap (λ es. printed_text named es l.reply) (e ∙ ap (λ es. entry.Fetched (note.Bytes bytes) ∷ es) s.noted)
-        ∙ text_fits named (note.Bytes bytes) s.found s.ended s.nodes (after_run (read_view files bytes named) i.found i.nodes) l.reply refl found s.reply_is
+        ∙ text_fits named (note.Bytes bytes) s.found s.ended s.nodes (after_run (read_view settings files bytes named) i.found i.nodes) l.reply refl found s.reply_is
 
-pub list_ended : {k : Bool} {bytes : List ℕ} {named : NamedModel} {l : Listing} {before entries : List Entry} {s : Status} {old new : SinkState} (i : IsListing named l)
+pub list_ended : {k : Bool} {bytes : List ℕ} {named : NamedModel} {settings : Settings} {l : Listing} {before entries : List Entry} {s : Status} {old new : SinkState} (i : IsListing named settings l)
     → before ≡ entry.Fetched (note.Bytes bytes) ∷ l.notes.items → entries ≡ before
-    → Answered k (status_by (is_refused l.reply)) s old new (printed_text named before l.reply)
-    → (files : Option Files) (name : List ℕ) → IsRead files name bytes named → Ended k (IsFileRun files name) (unsaid_of files name) entries s old new
-list_ended {k} {bytes} {named} {l} {before} {entries} {s} {old} {new} i e same a files name read =
-    subst (λ es. Ended k (IsFileRun files name) (unsaid_of files name) es s old new) (sym same)
-    (ended_of (IsFileRun files name) (unsaid_of files name) before (status_by (is_refused l.reply)) (whole_by (is_refused l.reply)) (list_said i read e) a)
+    → (shown : NamedModel) → shown ≡ named → Answered k (status_by (is_refused l.reply)) s old new (printed_text shown before l.reply)
+    → (files : Option Files) (name : List ℕ) → IsRead settings files name bytes named → Ended k (IsFileRun settings files name) (unsaid_of settings files name) entries s old new
+list_ended {k} {bytes} {named} {settings} {l} {before} {entries} {s} {old} {new} i e same shown is a files name read =
+    subst (λ es. Ended k (IsFileRun settings files name) (unsaid_of settings files name) es s old new) (sym same)
+    (ended_of (IsFileRun settings files name) (unsaid_of settings files name) before (status_by (is_refused l.reply)) (whole_by (is_refused l.reply)) (list_said i read e)
+    (subst (λ n. Answered k (status_by (is_refused l.reply)) s old new (printed_text n before l.reply)) is a))
 
 -- memory was wanting before any text went out
 wanting : (k : Bool) (says : List Entry → List ℕ → Status → Type 0) (unsaid : List Entry → Type 0) {entries : List Entry} {s : Status} (sink : SinkState)
@@ -261,28 +270,28 @@ wanting k says unsaid {entries} {s} sink is noted = record {
   fault = λ h. absurd (let e : status.NoMemory ≡ status.SinkFault = sym is ∙ h in cc);
 }
 
-wants_list : {files : Option Files} {name bytes : List ℕ} {named : NamedModel} {entries : List Entry} → IsRead files name bytes named → entries ≡ entry.Fetched (note.Bytes bytes) ∷ []
-    → unsaid_of files name entries
-wants_list {files} {name} {bytes} {named} {entries} read e = record { noted = inr (bytes, e, told) }
+wants_list : {settings : Settings} {files : Option Files} {name bytes : List ℕ} {named : NamedModel} {entries : List Entry} → IsRead settings files name bytes named → entries ≡ entry.Fetched (note.Bytes bytes) ∷ []
+    → unsaid_of settings files name entries
+wants_list {settings} {files} {name} {bytes} {named} {entries} read e = record { noted = inr (bytes, e, told) }
   where
-    s : SaysRead (begun first_settings files) name (entry.Fetched (note.Bytes bytes) ∷ []) (reply.Read (length named.names) (length named.model.rows))
-        (with_model (fetched_more (begun first_settings files) (length bytes)) named)
+    s : SaysRead (begun settings files) name (entry.Fetched (note.Bytes bytes) ∷ []) (reply.Read (length named.names) (length named.model.rows))
+        (with_model (fetched_more (begun settings files) (length bytes)) named)
     s = read.says
 
     same : s.answer ≡ note.Bytes bytes
     same = same_answer s.noted
 
-    told : Fetches (fetched.Bytes bytes) (begun first_settings files).files name (read_limit (begun first_settings files))
-    told = subst (λ a. Fetches (answer_of a) (begun first_settings files).files name (read_limit (begun first_settings files))) same s.told
+    told : Fetches (fetched.Bytes bytes) (begun settings files).files name (read_limit (begun settings files))
+    told = subst (λ a. Fetches (answer_of a) (begun settings files).files name (read_limit (begun settings files))) same s.told
 
-pub wanting_list : (k : Bool) {bytes : List ℕ} {named : NamedModel} {entries : List Entry} {s : Status} (sink : SinkState) → s ≡ status.NoMemory → entries ≡ entry.Fetched (note.Bytes bytes) ∷ []
-    → (files : Option Files) (name : List ℕ) → IsRead files name bytes named → Ended k (IsFileRun files name) (unsaid_of files name) entries s sink sink
-wanting_list k sink is e files name read = wanting k (IsFileRun files name) (unsaid_of files name) sink is (wants_list read e)
+pub wanting_list : (k : Bool) {settings : Settings} {bytes : List ℕ} {named : NamedModel} {entries : List Entry} {s : Status} (sink : SinkState) → s ≡ status.NoMemory → entries ≡ entry.Fetched (note.Bytes bytes) ∷ []
+    → (files : Option Files) (name : List ℕ) → IsRead settings files name bytes named → Ended k (IsFileRun settings files name) (unsaid_of settings files name) entries s sink sink
+wanting_list k {settings = settings} sink is e files name read = wanting k (IsFileRun settings files name) (unsaid_of settings files name) sink is (wants_list read e)
 
 -- a refused read
-refused_said : {files : Option Files} {name : List ℕ} {notes entries : List Entry} (why : Refusal) {after : View} → SaysRead (begun first_settings files) name notes (reply.Refused why) after → entries ≡ notes
-    → IsFileRun files name entries (refusal_text why) status.SomeRefused
-refused_said {files} {name} {notes} {entries} why {after} says e = record {
+refused_said : {settings : Settings} {files : Option Files} {name : List ℕ} {notes entries : List Entry} (why : Refusal) {after : View} → SaysRead (begun settings files) name notes (reply.Refused why) after → entries ≡ notes
+    → IsFileRun settings files name entries (refusal_text why) status.SomeRefused
+refused_said {settings} {files} {name} {notes} {entries} why {after} says e = record {
   refused = true;
   run = record {
     notes = notes;
@@ -296,22 +305,22 @@ refused_said {files} {name} {notes} {entries} why {after} says e = record {
   status_is = refl;
 }
 
-read_refused : (files : Option Files) (name : List ℕ) (entries : List Entry) (answer : FetchNote) (why : Refusal) → ReadSays (begun first_settings files) name (ended.Refused answer why)
-    → entries ≡ entry.Fetched answer ∷ [] → IsFileRun files name entries (refusal_text why) status.SomeRefused
-read_refused files name entries (note.Bytes bytes) why says e = refused_said why says e
-read_refused files name entries note.Absent why says e = refused_said why says e
-read_refused files name entries note.TooLong why says e = refused_said why says e
-read_refused files name entries note.Failed why says e = refused_said why says e
+read_refused : (settings : Settings) (files : Option Files) (name : List ℕ) (entries : List Entry) (answer : FetchNote) (why : Refusal) → ReadSays (begun settings files) name (ended.Refused answer why)
+    → entries ≡ entry.Fetched answer ∷ [] → IsFileRun settings files name entries (refusal_text why) status.SomeRefused
+read_refused settings files name entries (note.Bytes bytes) why says e = refused_said why says e
+read_refused settings files name entries note.Absent why says e = refused_said why says e
+read_refused settings files name entries note.TooLong why says e = refused_said why says e
+read_refused settings files name entries note.Failed why says e = refused_said why says e
 
-pub refusal_ended : {k : Bool} {entries : List Entry} {s : Status} {old new : SinkState} (files : Option Files) (name : List ℕ) (answer : FetchNote) (why : Refusal)
-    → ReadSays (begun first_settings files) name (ended.Refused answer why) → entries ≡ entry.Fetched answer ∷ [] → Answered k status.SomeRefused s old new (refusal_text why)
-    → Ended k (IsFileRun files name) (unsaid_of files name) entries s old new
-refusal_ended {entries = entries} files name answer why says e a =
-    ended_of (IsFileRun files name) (unsaid_of files name) entries status.SomeRefused tt (read_refused files name entries answer why says e) a
+pub refusal_ended : {k : Bool} {entries : List Entry} {s : Status} {old new : SinkState} (settings : Settings) (files : Option Files) (name : List ℕ) (answer : FetchNote) (why : Refusal)
+    → ReadSays (begun settings files) name (ended.Refused answer why) → entries ≡ entry.Fetched answer ∷ [] → Answered k status.SomeRefused s old new (refusal_text why)
+    → Ended k (IsFileRun settings files name) (unsaid_of settings files name) entries s old new
+refusal_ended {entries = entries} settings files name answer why says e a =
+    ended_of (IsFileRun settings files name) (unsaid_of settings files name) entries status.SomeRefused tt (read_refused settings files name entries answer why says e) a
 
-pub unread_ended : (k : Bool) {entries : List Entry} {s : Status} (sink : SinkState) (files : Option Files) (name : List ℕ) (bytes : Option (List ℕ))
-    → ReadSays (begun first_settings files) name (ended.NoMemory bytes) → entries ≡ bytes_notes bytes → s ≡ status.NoMemory → Ended k (IsFileRun files name) (unsaid_of files name) entries s sink sink
-unread_ended k sink files name bytes says e is = wanting k (IsFileRun files name) (unsaid_of files name) sink is (subst (unsaid_of files name) (sym e) says)
+pub unread_ended : (k : Bool) {entries : List Entry} {s : Status} (sink : SinkState) (settings : Settings) (files : Option Files) (name : List ℕ) (bytes : Option (List ℕ))
+    → ReadSays (begun settings files) name (ended.NoMemory bytes) → entries ≡ bytes_notes bytes → s ≡ status.NoMemory → Ended k (IsFileRun settings files name) (unsaid_of settings files name) entries s sink sink
+unread_ended k sink settings files name bytes says e is = wanting k (IsFileRun settings files name) (unsaid_of settings files name) sink is (subst (unsaid_of settings files name) (sym e) says)
 
 -- The counts.
 
@@ -345,34 +354,49 @@ own_answers {first} {entries} {old} {new} n a = subst (λ es. AreAnswers es old 
 pub first_noted : {empty mid whole : List Entry} (rest : List Entry) (first : Entry) → whole ≡ mid ++ rest → mid ≡ empty ++ first ∷ [] → empty ≡ [] → whole ≡ first ∷ rest
 first_noted rest first e f none = e ∙ ap (λ es. es ++ rest) (f ∙ ap (λ es. es ++ first ∷ []) none)
 
-pub usage_ended : {k : Bool} (files : Option Files) (words : List (List ℕ)) (entries : List Entry) {s : Status} {old new : SinkState} → file_word words ≡ None → entries ≡ []
-    → Answered k status.Usage s old new (spelling wording.Usage) → Ended k (RunText files (asked words)) (RunUnsaid files (asked words)) entries s old new
-usage_ended {k} files words entries {s} {old} {new} none e a =
-    subst (λ f. Ended k (RunText files (asked_by_word f)) (RunUnsaid files (asked_by_word f)) entries s old new) (sym none)
-    (ended_of IsUsage (λ es. ⊥) entries status.Usage tt (record { nothing_noted = e; line = refl; status_is = refl }) a)
-
--- the name has another ending
-asked_other : (words : List (List ℕ)) (name : List ℕ) → file_word words ≡ Some name → format_of name ≡ None → asked words ≡ OtherFile
-asked_other words name some none = ap asked_by_word some ∙ ap (asked_by_format name) none
-
-pub other_ended : {k : Bool} (files : Option Files) (words : List (List ℕ)) (name : List ℕ) (entries : List Entry) {s : Status} {old new : SinkState} → file_word words ≡ Some name → format_of name ≡ None
-    → entries ≡ [] → Answered k status.SomeRefused s old new (spelling wording.BadArgument) → Ended k (RunText files (asked words)) (RunUnsaid files (asked words)) entries s old new
-other_ended {k} files words name entries {s} {old} {new} some none e a =
-    subst (λ w. Ended k (RunText files w) (RunUnsaid files w) entries s old new) (sym (asked_other words name some none))
-    (ended_of IsOtherFile (λ es. ⊥) entries status.SomeRefused tt (record { nothing_noted = e; line = refl; status_is = refl }) a)
-
--- the name is that of a model file
-pub asked_file : (words : List (List ℕ)) (name : List ℕ) (format : FileFormat) → file_word words ≡ Some name → format_of name ≡ Some format → asked words ≡ ModelFile name
-asked_file words name format some is = ap asked_by_word some ∙ ap (asked_by_format name) is
-
--- there was no room for the shelf's answer
-pub no_room_ended : (k : Bool) (sink : SinkState) (files : Option Files) (words : List (List ℕ)) (name : List ℕ) (entries : List Entry) (s : Status)
-    → asked words ≡ ModelFile name → entries ≡ [] → s ≡ status.NoMemory → Ended k (RunText files (asked words)) (RunUnsaid files (asked words)) entries s sink sink
-no_room_ended k sink files words name entries s file e is =
-    subst (λ w. Ended k (RunText files w) (RunUnsaid files w) entries s sink sink) (sym file)
-    (wanting k (IsFileRun files name) (unsaid_of files name) sink is (record { noted = inl e }))
+-- what a run says and leaves unsaid, in other words
+outcome_as : (k : Bool) (says other : Saying) (unsaid without : Unsaid) (entries : List Entry) (old new : Option (List ℕ)) (s : Status)
+    → ((text : List ℕ) (g : Status) → says entries text g → other entries text g) → (unsaid entries → without entries)
+    → Outcome k says unsaid entries s old new → Outcome k other without entries s old new
+outcome_as k says other unsaid without entries old new status.Clean f g h = record { text = h.text; said = f h.text status.Clean h.said; held = h.held }
+outcome_as k says other unsaid without entries old new status.SomeRefused f g h = record { text = h.text; said = f h.text status.SomeRefused h.said; held = h.held }
+outcome_as k says other unsaid without entries old new status.Usage f g h = record { text = h.text; said = f h.text status.Usage h.said; held = h.held }
+outcome_as k says other unsaid without entries old new status.SinkFault f g h = record { text = h.text; meant = h.meant; said = f h.text h.meant h.said; held = h.held }
+outcome_as k says other unsaid without entries old new status.NoMemory f g (inl (takes, part)) = inl (takes, record { text = part.text; meant = part.meant; said = f part.text part.meant part.said; held = part.held })
+outcome_as k says other unsaid without entries old new status.NoMemory f g (inr none) = inr (record { held = none.held; noted = g none.noted })
+outcome_as k says other unsaid without entries old new status.SourceFault f g h = absurd h
+outcome_as k says other unsaid without entries old new status.StreamTooLong f g h = absurd h
 
 -- the file was read and listed, or refused
-pub file_ended : (k : Bool) (files : Option Files) (words : List (List ℕ)) (name : List ℕ) (entries : List Entry) (s : Status) (old new : SinkState)
-    → asked words ≡ ModelFile name → Ended k (IsFileRun files name) (unsaid_of files name) entries s old new → Ended k (RunText files (asked words)) (RunUnsaid files (asked words)) entries s old new
-file_ended k files words name entries s old new file ended = subst (λ w. Ended k (RunText files w) (RunUnsaid files w) entries s old new) (sym file) ended
+pub file_ended : {k : Bool} {files : Option Files} {words : List (List ℕ)} {r : Request} {format : FileFormat} {entries : List Entry} {s : Status} {old new : SinkState}
+    → IsReading words r → format_of r.file ≡ Some format → Ended k (IsFileRun (settings_of r) files r.file) (WantsInRead (begun (settings_of r) files) r.file) entries s old new
+    → Ended k (RunText files words) (RunUnsaid files words) entries s old new
+file_ended {k} {files} {words} {r} {format} {entries} {s} {old} {new} reading is ended = record {
+  outcome = outcome_as k (IsFileRun (settings_of r) files r.file) (RunText files words) (WantsInRead (begun (settings_of r) files) r.file) (RunUnsaid files words) entries old.held new.held s
+      (λ text g d. run.asks r reading (subst (λ f. RequestText files r f entries text g) (sym is) d)) (λ w. run.reading r format reading is w) ended.outcome;
+  later = ended.later;
+  fault = ended.fault;
+}
+
+-- the file's name has another ending
+pub other_ended : {k : Bool} {files : Option Files} {words : List (List ℕ)} {r : Request} {entries : List Entry} {s : Status} {old new : SinkState}
+    → IsReading words r → format_of r.file ≡ None → entries ≡ [] → Answered k status.SomeRefused s old new (spelling wording.BadArgument)
+    → Ended k (RunText files words) (RunUnsaid files words) entries s old new
+other_ended {k} {files} {words} {r} {entries} {s} {old} {new} reading is e a =
+    ended_of (RunText files words) (RunUnsaid files words) entries status.SomeRefused tt
+    (run.asks r reading (subst (λ f. RequestText files r f entries (spelling wording.BadArgument) status.SomeRefused) (sym is) (record { nothing_noted = e; line = refl; status_is = refl }))) a
+
+pub usage_ended : {k : Bool} (files : Option Files) (words : List (List ℕ)) {entries : List Entry} {s : Status} {old new : SinkState} → IsNoReading words → entries ≡ []
+    → Answered k status.Usage s old new (spelling wording.Usage) → Ended k (RunText files words) (RunUnsaid files words) entries s old new
+usage_ended files words {entries} none e a =
+    ended_of (RunText files words) (RunUnsaid files words) entries status.Usage tt (run.no_reading none (record { nothing_noted = e; line = refl; status_is = refl })) a
+
+-- there was no memory for the words or for the shelf's answer
+pub no_room_ended : (k : Bool) (sink : SinkState) (files : Option Files) (words : List (List ℕ)) {entries : List Entry} {s : Status} → entries ≡ [] → s ≡ status.NoMemory
+    → Ended k (RunText files words) (RunUnsaid files words) entries s sink sink
+no_room_ended k sink files words e is = wanting k (RunText files words) (RunUnsaid files words) sink is (run.nothing e)
+
+-- words that ask for nothing, where there was memory
+pub no_reading_of : {words : List (List ℕ)} (why : WordsRefusal) → why ≡ refused.Usage → (why ≡ refused.NoMemory) ⊎ IsNoReading words → IsNoReading words
+no_reading_of why is (inl m) = absurd (let bad : refused.Usage ≡ refused.NoMemory = sym is ∙ m in cc)
+no_reading_of why is (inr none) = none

@@ -9,11 +9,10 @@ use Rattle.sp_base.specs.declared.sinks.SinkEnd.TheVariants as sunk
 use Rattle.sp_base.specs.declared.statuses.Status.{Status}
 use Rattle.sp_base.specs.declared.statuses.Status.TheVariants as status
 use Rattle.sp_engine.specs.declared.journals.Entry.{Entry}
-use Rattle.sp_engine.specs.LegalRuns.{first_settings}
 use Rattle.sp_engine.specs.Reading.{WantsInRead}
-use Rattle.sp_engine.specs.Views.{begun}
+use Rattle.sp_engine.specs.Views.{Settings, begun}
 use Rattle.sp_shell.specs.declared.runs.Ending.{Ending}
-use Rattle.sp_shell.specs.Runs.{IsFileRun, Outcome, Saying, Unsaid}
+use Rattle.sp_shell.specs.Runs.{IsFileRun, Outcome, RunText, RunUnsaid, Saying, Unsaid}
 
 -- the status of a run that was to end with `intended`, after its text was sent or not
 abbrev pub status_after : {X : Type 0} → Result X SinkEnd → Status → Status
@@ -39,11 +38,17 @@ pub record Ended (takes_memory : Bool) (says : Saying) (unsaid : Unsaid) (entrie
   pub later : old.faults ≤ new.faults
   pub fault : s ≡ status.SinkFault → Rose old.faults new.faults
 
--- the run of this file ended so, over a sink of K
-abbrev pub EndsFile : {S : Type 0} → SinkOf S → Option Files → List ℕ → Ending → S → S → Type 0
-EndsFile K files name ending old new =
-    Ended K.takes_memory (IsFileRun files name) (WantsInRead (begun first_settings files) name)
+-- the run of this file with these settings ended so, over a sink of K
+abbrev pub EndsFile : {S : Type 0} → SinkOf S → Settings → Option Files → List ℕ → Ending → S → S → Type 0
+EndsFile K settings files name ending old new =
+    Ended K.takes_memory (IsFileRun settings files name) (WantsInRead (begun settings files) name)
     ending.journal.entries ending.status (state_of K old) (state_of K new)
+
+-- the run over these words ended so, over a sink of K
+abbrev pub EndsRun : {S : Type 0} → SinkOf S → Option Files → List (List ℕ) → Ending → S → S → Type 0
+EndsRun K files words ending old new =
+    Ended K.takes_memory (RunText files words) (RunUnsaid files words) ending.journal.entries ending.status
+    (state_of K old) (state_of K new)
 
 -- a status that comes with a whole text
 abbrev pub IsWhole : Status → Type 0

@@ -1,6 +1,7 @@
 -- Replies as they are printed: the listed points stand among the notes.
 use Rattle.std.specs.Prelude.{◌≡◌, ℕ, ◌<◌, List, [], ◌++◌, length, slice_index_or, flat_map, All}
 use Rattle.sp_draft.specs.SolutionLines.{solution_line}
+use Rattle.sp_model.specs.declared.parts.ModelParts.{ModelParts}
 use Rattle.sp_model.specs.Boxes.{IsWithin}
 use Rattle.sp_model.specs.Models.{root_of}
 use Rattle.sp_engine.specs.declared.journals.Entry.{Entry}
@@ -11,6 +12,9 @@ use Rattle.sp_engine.specs.declared.replies.Reply.{Reply}
 use Rattle.sp_engine.specs.declared.replies.Reply.TheVariants as reply
 use Rattle.sp_engine.specs.Runs.{IsSmall}
 use Rattle.sp_shell.specs.Replies.{done_head, read_text, refusal_text, stopped_text}
+
+abbrev pub named_of : List (List ℕ) → ModelParts → NamedModel
+named_of names m = record { names = names; model = m }
 
 -- the line of a noted point, and nothing for the other notes
 unfoldable pub entry_line : NamedModel → Entry → List ℕ

@@ -6,13 +6,12 @@ use Rattle.sp_engine.specs.declared.journals.Entry.{Entry}
 use Rattle.sp_engine.specs.declared.journals.Entry.TheVariants as entry
 use Rattle.sp_engine.specs.declared.models.NamedModel.{NamedModel}
 use Rattle.sp_engine.specs.declared.reading.ReadEnd.TheVariants as ended
-use Rattle.sp_engine.specs.LegalRuns.{first_settings}
 use Rattle.sp_engine.specs.ReadEnds.{ReadSays}
-use Rattle.sp_engine.specs.Views.{begun}
+use Rattle.sp_engine.specs.Views.{Settings, begun}
 
--- a session that begins read the file of this name as this model
-pub record IsRead (files : Option Files) (name bytes : List ℕ) (named : NamedModel) : Type 0 where
-  pub says : ReadSays (begun first_settings files) name (ended.Accepted bytes named)
+-- a session that begins with these settings read the file of this name as this model
+pub record IsRead (settings : Settings) (files : Option Files) (name bytes : List ℕ) (named : NamedModel) : Type 0 where
+  pub says : ReadSays (begun settings files) name (ended.Accepted bytes named)
 
 -- a note of the run itself, not of the outside
 abbrev pub is_own : Entry → Bool

@@ -1,50 +1,24 @@
 -- What a run is asked, notes, prints and answers.
-use Rattle.std.specs.Prelude.{◌≡◌, ℕ, ◌⊎◌, ◌==◌, Bool, true, false, IsTrue, if◌then◌else◌}
-use Rattle.std.specs.Prelude.{List, [], ◌∷◌, ◌++◌, Option, None, Some}
+use Rattle.std.specs.Prelude.{◌≡◌, ℕ, ◌⊎◌, Bool, true, false, IsTrue}
+use Rattle.std.specs.Prelude.{List, [], ◌++◌, Option, None, Some}
 use Rattle.sp_base.specs.Told.{append, AppendsPart}
 use Rattle.sp_base.specs.Shelf.{Files}
 use Rattle.sp_base.specs.declared.statuses.Status.{Status}
 use Rattle.sp_base.specs.declared.statuses.Status.TheVariants as status
+use Rattle.sp_args.specs.declared.requests.Request.{Request}
+use Rattle.sp_args.specs.Requests.{IsReading, IsNoReading}
 use Rattle.sp_engine.specs.declared.commands.Command.TheVariants as command
 use Rattle.sp_engine.specs.declared.formats.FileFormat.{FileFormat}
 use Rattle.sp_engine.specs.declared.journals.Entry.{Entry}
 use Rattle.sp_engine.specs.declared.replies.Reply.{Reply}
 use Rattle.sp_engine.specs.Formats.{format_of}
-use Rattle.sp_engine.specs.LegalRuns.{first_settings}
 use Rattle.sp_engine.specs.Reading.{WantsInRead}
 use Rattle.sp_engine.specs.Replies.{is_refused}
 use Rattle.sp_engine.specs.Sessions.{Says}
-use Rattle.sp_engine.specs.Views.{View, begun}
+use Rattle.sp_engine.specs.Views.{Settings, View, begun, settings_with}
 use Rattle.sp_shell.specs.declared.wordings.Wording.TheVariants as wording
 use Rattle.sp_shell.specs.Replies.{reply_text}
 use Rattle.sp_shell.specs.Wording.{spelling}
-
--- The words.
-
--- the file that the words name: the only word, which has no dash in front
-abbrev pub file_word : List (List ℕ) → Option (List ℕ)
-file_word [] = None
-file_word ([] ∷ []) = Some []
-file_word ((b ∷ bs) ∷ []) = if b == 45 then None else Some (b ∷ bs)
-file_word (v ∷ w ∷ ws) = None
-
--- what the words ask for: nothing, as they are no reading; a file whose name has another ending than a model's; the
--- list of a file's model
-pub data Asked : Type 0 where
-  Nothing : Asked
-  OtherFile : Asked
-  ModelFile : List ℕ → Asked
-
-abbrev pub asked_by_format : List ℕ → Option FileFormat → Asked
-asked_by_format name None = OtherFile
-asked_by_format name (Some format) = ModelFile name
-
-abbrev pub asked_by_word : Option (List ℕ) → Asked
-asked_by_word None = Nothing
-asked_by_word (Some name) = asked_by_format name (format_of name)
-
-abbrev pub asked : List (List ℕ) → Asked
-asked words = asked_by_word (file_word words)
 
 -- The run of one file: it is read, and where it isn't refused, its solutions are listed.
 
@@ -95,11 +69,11 @@ pub record IsOtherFile (entries : List Entry) (text : List ℕ) (s : Status) : T
   pub line : text ≡ spelling wording.BadArgument
   pub status_is : s ≡ status.SomeRefused
 
--- the words name this file
-pub record IsFileRun (files : Option Files) (name : List ℕ) (entries : List Entry) (text : List ℕ) (s : Status)
-    : Type 0 where
+-- the words name this file, and these are the settings
+pub record IsFileRun (settings : Settings) (files : Option Files) (name : List ℕ) (entries : List Entry) (text : List ℕ)
+    (s : Status) : Type 0 where
   pub refused : Bool
-  pub run : OneRun (begun first_settings files) name entries text refused
+  pub run : OneRun (begun settings files) name entries text refused
   pub status_is : s ≡ status_by refused
 
 -- what a run says of its notes, its text and its status; and with which notes memory can be wanting before any text
@@ -109,17 +83,26 @@ Saying = List Entry → List ℕ → Status → Type 0
 abbrev pub Unsaid : Type 1
 Unsaid = List Entry → Type 0
 
--- what a run says over a shelf with these files, once it is known what the words ask for
-abbrev pub RunText : Option Files → Asked → Saying
-RunText files Nothing = IsUsage
-RunText files OtherFile = IsOtherFile
-RunText files (ModelFile name) = IsFileRun files name
+-- the settings that the words ask for
+abbrev pub settings_of : Request → Settings
+settings_of r = settings_with r.gaps r.nodes
 
--- the notes with which memory can be wanting before any text goes out: none where the shelf isn't asked
-abbrev pub RunUnsaid : Option Files → Asked → Unsaid
-RunUnsaid files Nothing = λ entries. ⊥
-RunUnsaid files OtherFile = λ entries. ⊥
-RunUnsaid files (ModelFile name) = WantsInRead (begun first_settings files) name
+-- what a run says over a shelf with these files, by the format of the file that the words ask for
+abbrev pub RequestText : Option Files → Request → Option FileFormat → Saying
+RequestText files r None = IsOtherFile
+RequestText files r (Some format) = IsFileRun (settings_of r) files r.file
+
+-- what a run says over these words
+pub data RunText (files : Option Files) (words : List (List ℕ)) (entries : List Entry) (text : List ℕ) (s : Status) : Type 0 where
+  no_reading : IsNoReading words → IsUsage entries text s → RunText files words entries text s
+  asks : (r : Request) → IsReading words r → RequestText files r (format_of r.file) entries text s
+      → RunText files words entries text s
+
+-- the notes with which memory can be wanting before any text goes out: none, or the bytes of the file that the words ask for
+pub data RunUnsaid (files : Option Files) (words : List (List ℕ)) (entries : List Entry) : Type 0 where
+  nothing : entries ≡ [] → RunUnsaid files words entries
+  reading : (r : Request) (format : FileFormat) → IsReading words r → format_of r.file ≡ Some format
+      → WantsInRead (begun (settings_of r) files) r.file entries → RunUnsaid files words entries
 
 -- What went out.
 

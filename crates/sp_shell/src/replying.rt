@@ -3,22 +3,28 @@
 ghost use Rattle.std.specs.Prelude.{◌≡◌, ◌<◌, ◌≤◌, ◌^◌, ◌++◌, All, length, flat_map, IfSome, unsigned_abs};
 ghost use Rattle.sp_base.specs.Writing.{Writes};
 ghost use Rattle.sp_shell.specs.Replies.{done_head};
-ghost use Rattle.sp_shell.specs.InnerReplies.{CanPrint, IsPrintable, entry_line, printed_text, serial_line};
+ghost use Rattle.sp_shell.specs.InnerReplies.{CanPrint, IsPrintable, entry_line, named_of, printed_text, serial_line};
 
 use crate::printing::{print_head, print_read, print_refusal, print_stopped};
 use sp_base::{Sink, SinkEnd, texts_grow, texts_join};
-use sp_draft::solution_line;
-use sp_engine::{Entry, NamedModel, Reply};
+use sp_draft::{Names, solution_line};
+use sp_engine::{Entry, Reply};
+use sp_model::Model;
 
 /// Prints the line of a noted point, and nothing for another note.
 #[tactic(auto, unfolding(crate::specs::InnerReplies::entry_line))]
-fn print_entry<K: Sink>(sink: &mut K, named: &NamedModel, entry: &Entry) -> Result<(), SinkEnd>
-    requires { IsPrintable named.now entry.now }
-    ensures written { Writes K.Sink result sink.old sink.new (entry_line named.now entry.now) }
+fn print_entry<K: Sink>(
+    sink: &mut K,
+    names: &Names,
+    model: &Model,
+    entry: &Entry,
+) -> Result<(), SinkEnd>
+    requires { IsPrintable (named_of names.now model.now) entry.now }
+    ensures written { Writes K.Sink result sink.old sink.new (entry_line (named_of names.now model.now) entry.now) }
 {
     texts_join();
     match entry {
-        Entry::Found(point) => solution_line(&named.names, &named.model, point, sink),
+        Entry::Found(point) => solution_line(names, model, point, sink),
         Entry::Fetched(_) => Ok(()),
         Entry::Stored(_) => Ok(()),
         Entry::Ended { .. } => Ok(()),
@@ -29,31 +35,33 @@ fn print_entry<K: Sink>(sink: &mut K, named: &NamedModel, entry: &Entry) -> Resu
 #[tactic(auto, unfolding(crate::specs::InnerReplies::serial_line))]
 fn print_serial<K: Sink>(
     sink: &mut K,
-    named: &NamedModel,
+    names: &Names,
+    model: &Model,
     notes: &[Entry],
-    serial: &usize,
+    serial: &u32,
 ) -> Result<(), SinkEnd>
     requires noted { serial.now < length notes.now }
-    requires notes { All (IsPrintable named.now) notes.now }
-    ensures written { Writes K.Sink result sink.old sink.new (serial_line named.now notes.now serial.now) }
+    requires notes { All (IsPrintable (named_of names.now model.now)) notes.now }
+    ensures written { Writes K.Sink result sink.old sink.new (serial_line (named_of names.now model.now) notes.now serial.now) }
 {
-    print_entry(sink, named, &notes[*serial])
+    print_entry(sink, names, model, &notes[*serial as usize])
 }
 
 /// Prints the lines of the points of these serials.
 fn print_serials<K: Sink>(
     sink: &mut K,
-    named: &NamedModel,
+    names: &Names,
+    model: &Model,
     notes: &[Entry],
-    serials: &[usize],
+    serials: &[u32],
 ) -> Result<(), SinkEnd>
     requires noted { All (λ serial. serial < length notes.now) serials.now }
-    requires notes { All (IsPrintable named.now) notes.now }
-    ensures written { Writes K.Sink result sink.old sink.new (flat_map (serial_line named.now notes.now) serials.now) }
+    requires notes { All (IsPrintable (named_of names.now model.now)) notes.now }
+    ensures written { Writes K.Sink result sink.old sink.new (flat_map (serial_line (named_of names.now model.now) notes.now) serials.now) }
 {
     texts_grow();
     for serial in serials {
-        match print_serial(sink, named, notes, serial) {
+        match print_serial(sink, names, model, notes, serial) {
             Err(end) => return Err(end),
             Ok(()) => {}
         }
@@ -64,22 +72,23 @@ fn print_serials<K: Sink>(
 /// Prints the reply of a complete list.
 fn print_listed<K: Sink>(
     sink: &mut K,
-    named: &NamedModel,
+    names: &Names,
+    model: &Model,
     optimum: &Option<i128>,
-    serials: &[usize],
+    serials: &[u32],
     notes: &[Entry],
 ) -> Result<(), SinkEnd>
     requires optimum { IfSome optimum.now (λ v. unsigned_abs v ≤ 10 ^ 36) }
     requires noted { All (λ serial. serial < length notes.now) serials.now }
-    requires notes { All (IsPrintable named.now) notes.now }
-    ensures written { let head = done_head named.now.model optimum.now (length serials.now) in
+    requires notes { All (IsPrintable (named_of names.now model.now)) notes.now }
+    ensures written { let head = done_head model.now optimum.now (length serials.now) in
         Writes K.Sink result sink.old sink.new
-        (head ++ flat_map (serial_line named.now notes.now) serials.now) }
+        (head ++ flat_map (serial_line (named_of names.now model.now) notes.now) serials.now) }
 {
     texts_join();
-    match print_head(sink, &named.model, optimum, serials.len()) {
+    match print_head(sink, model, optimum, serials.len()) {
         Err(end) => Err(end),
-        Ok(()) => print_serials(sink, named, notes, serials),
+        Ok(()) => print_serials(sink, names, model, notes, serials),
     }
 }
 
@@ -87,16 +96,17 @@ fn print_listed<K: Sink>(
 #[tactic(auto, unfolding(crate::specs::InnerReplies::printed_text))]
 pub fn print_reply<K: Sink>(
     sink: &mut K,
-    named: &NamedModel,
+    names: &Names,
+    model: &Model,
     reply: &Reply,
     notes: &[Entry],
 ) -> Result<(), SinkEnd>
-    requires { CanPrint named.now notes.now reply.now }
-    ensures written { Writes K.Sink result sink.old sink.new (printed_text named.now notes.now reply.now) }
+    requires { CanPrint (named_of names.now model.now) notes.now reply.now }
+    ensures written { Writes K.Sink result sink.old sink.new (printed_text (named_of names.now model.now) notes.now reply.now) }
 {
     match reply {
         Reply::Listed { optimum, serials } => {
-            print_listed(sink, named, optimum, serials.as_slice(), notes)
+            print_listed(sink, names, model, optimum, serials.as_slice(), notes)
         }
         Reply::Read { variables, rows } => print_read(sink, *variables, *rows),
         Reply::Stopped { nodes } => print_stopped(sink, *nodes),

@@ -68,7 +68,7 @@ fn first_wrong(alloc: Global, cases: &[Printed]) -> Result<Option<usize>, AllocE
 }
 
 /// Files of each kind, with their lists or their refusals.
-static FILES: [Printed; 36] = [
+static FILES: [Printed; 35] = [
     // two binaries that exclude each other
     (
         b"m.lp",
@@ -333,18 +333,6 @@ optimum 16
 solutions 1
 16 : a 1 b 1 c 1 d 1 e 1 f 1 g 1 h 1 i 1 j 1 k 1 l 1 m 1 n 1 o 1 p 1
 ",
-        Status::Clean,
-    ),
-    // 17 variables: the whole tree is too large
-    (
-        b"m.lp",
-        b"Minimize
-obj:
-Binaries
-x1 x2 x3 x4 x5 x6 x7 x8 x9 x10 x11 x12 x13 x14 x15 x16 x17
-End
-",
-        b"status nodelimit\nnodes 199999\n",
         Status::Clean,
     ),
     // a file under the name of the other format, and empty files
@@ -616,7 +604,7 @@ static SAYINGS: [Said; 12] = [
     (&[], &[], USAGE, Status::Usage, 0),
     (&[b"m.lp", b"m.lp"], &[], USAGE, Status::Usage, 0),
     (&[b"-x"], &[], USAGE, Status::Usage, 0),
-    (&[b"-"], &[], USAGE, Status::Usage, 0),
+    (&[b"--demo", b"3"], &[], USAGE, Status::Usage, 0),
     (&[b"", b""], &[1], USAGE, Status::Usage, 0),
     (
         &[b"m.lp"],
@@ -647,7 +635,7 @@ static SAYINGS: [Said; 12] = [
         1,
     ),
     // a name with another ending, for which the shelf isn't asked
-    (&[b""], &[1], OTHER, Status::SomeRefused, 0),
+    (&[b"-"], &[1], OTHER, Status::SomeRefused, 0),
     (&[b"m.txt"], &[1], OTHER, Status::SomeRefused, 0),
     (&[b"m.lp.gz"], &[1], OTHER, Status::SomeRefused, 0),
 ];
@@ -683,6 +671,95 @@ fn first_other(alloc: Global, cases: &[Said]) -> Result<Option<usize>, AllocErro
 fn answers_words_and_shelves(rt: HostRuntime) -> Result<(), Fail> {
     let other = first_other(rt.alloc(), sayings())?;
     assert_eq!(rt; other, None);
+    Ok(())
+}
+
+/// The words before the file's name, the file, and what is printed.
+type Worded = (&'static [&'static [u8]], &'static [u8], &'static [u8]);
+
+/// Two binaries that exclude each other.
+const PAIR: &[u8] =
+    b"Maximize\n obj: 3 x + 2 y\nSubject To\n c1: x + y <= 1\nBinaries\n x y\nEnd\n";
+
+/// Gaps and limits, with lists by hand.
+static LISTS: [Worded; 8] = [
+    // a point that stands on the gap
+    (
+        &[b"--absgap", b"1"],
+        PAIR,
+        b"status done\noptimum 3\nsolutions 2\n3 : x 1\n2 : y 1\n",
+    ),
+    // the relative gap is a part of the optimum's magnitude, also where that is negative
+    (
+        &[b"--absgap", b"1e75", b"--relgap", b"0.1"],
+        b"Minimize\nobj: x + y - 10\nBinaries\nx y\nEnd\n",
+        b"status done\noptimum -10\nsolutions 3\n-10 :\n-9 : y 1\n-9 : x 1\n",
+    ),
+    (
+        &[b"--absgap=1e75", b"--relgap=0.5"],
+        b"Minimize\nx\nBinaries\nx\nEnd\n",
+        b"status done\noptimum 0\nsolutions 1\n0 :\n",
+    ),
+    // an empty box needs one node
+    (
+        &[b"--nodes", b"1"],
+        b"Minimize\nx\nBounds\n3 <= x <= 2\nGenerals\nx\nEnd\n",
+        b"status done\ninfeasible\nsolutions 0\n",
+    ),
+    (
+        &[b"--absgap", b"1", b"--nodes", b"1"],
+        PAIR,
+        b"status nodelimit\nnodes 1\n",
+    ),
+    // two points where four can be need seven nodes
+    (
+        &[b"--absgap", b"1", b"--nodes", b"7"],
+        PAIR,
+        b"status done\noptimum 3\nsolutions 2\n3 : x 1\n2 : y 1\n",
+    ),
+    // an optimum that is found late, and the lesser of two gaps
+    (
+        &[b"--absgap", b"3", b"--relgap", b"1"],
+        b"Minimize\nobj: 3 x + y + 1\nSubject To\nc: x + y >= 1\nBinaries\nx y\nEnd\n",
+        b"status done\noptimum 2\nsolutions 2\n2 : y 1\n4 : x 1\n",
+    ),
+    (
+        &[b"--nodes", b"99"],
+        b"Minimize\nobj:\nBinaries\nx1 x2 x3 x4 x5 x6 x7 x8 x9\nEnd\n",
+        b"status nodelimit\nnodes 99\n",
+    ),
+];
+
+/// Whether the run over these words and a file prints this.
+fn prints_worded(
+    alloc: Global,
+    before: &[&[u8]],
+    file: &[u8],
+    wanted: &[u8],
+) -> Result<bool, AllocError> {
+    let mut shelf = one_file(alloc, b"m.lp", file, &[])?;
+    let mut sink = MemSink::new(alloc, 1_000, Vec::new(alloc));
+    let mut words = word_list(alloc, before)?;
+    words.push(text(alloc, b"m.lp")?)?;
+    let mut source = MemSource::new(alloc, Vec::new(alloc), 1, Vec::new(alloc));
+    let ending = run(alloc, &words, &mut source, &mut shelf, &mut sink);
+    Ok(ending.status == Status::Clean && sink.bytes() == wanted)
+}
+
+/// The first case that prints something else.
+fn first_unlisted(alloc: Global) -> Result<Option<usize>, AllocError> {
+    for (at, (before, file, wanted)) in LISTS.iter().enumerate() {
+        if !prints_worded(alloc, before, file, wanted)? {
+            return Ok(Some(at));
+        }
+    }
+    Ok(None)
+}
+
+#[test]
+fn gaps_and_limits_are_kept(rt: HostRuntime) -> Result<(), Fail> {
+    let unlisted = first_unlisted(rt.alloc())?;
+    assert_eq!(rt; unlisted, None);
     Ok(())
 }
 
@@ -759,23 +836,15 @@ fn many_rows(alloc: Global) -> Result<Vec<u8>, AllocError> {
     Ok(file)
 }
 
-/// Whether the run over this file prints this.
-fn prints_many(alloc: Global, file: &[u8], wanted: &[u8]) -> Result<bool, AllocError> {
-    let mut shelf = one_file(alloc, b"m.lp", file, &[])?;
-    let mut sink = MemSink::new(alloc, 1_000, Vec::new(alloc));
-    let (answer, _) = run_over(alloc, &[b"m.lp"], &mut shelf, &mut sink)?;
-    Ok(answer == Status::Clean && sink.bytes() == wanted)
-}
-
 #[test]
 fn reads_many_rows_and_variables(rt: HostRuntime) -> Result<(), Fail> {
     let alloc = rt.alloc();
     let (rows, variables) = (many_rows(alloc)?, many_variables(alloc)?);
     let one = b"status done\noptimum 5\nsolutions 1\n5 : x1 1 x3 1 x5 1 x7 1 x9 1\n";
-    let stopped = b"status nodelimit\nnodes 199999\n";
+    let stopped = b"status nodelimit\nnodes 99\n";
     let right = (
-        prints_many(alloc, rows.as_slice(), one)?,
-        prints_many(alloc, variables.as_slice(), stopped)?,
+        prints_worded(alloc, &[], rows.as_slice(), one)?,
+        prints_worded(alloc, &[b"--nodes=99"], variables.as_slice(), stopped)?,
     );
     assert_eq!(rt; right, (true, true));
     Ok(())

@@ -1,7 +1,8 @@
 //! The top call: one run over a source, a shelf and a sink.
-ghost use Rattle.std.specs.Prelude.{◌≡◌, ◌≤◌, ◌<◌, ◌++◌, ◌∷◌, [], None, Some, List, ℕ, Option};
-ghost use Rattle.std.specs.Prelude.{length, count_by, MatchOption};
+ghost use Rattle.std.specs.Prelude.{◌≡◌, ◌≤◌, ◌<◌, ◌++◌, ◌∷◌, [], ◌⊎◌, Some, List, ℕ, Option};
+ghost use Rattle.std.specs.Prelude.{length, count_by};
 ghost use Rattle.std.specs.Prelude.{vec_len, vec_capacity};
+ghost use Rattle.sp_args.specs.Requests.{IsNoReading};
 ghost use Rattle.sp_base.specs.Buffers.{inner_of, waiting_of};
 ghost use Rattle.sp_base.specs.Counts.{Rose, RoseBy, raised_by};
 ghost use Rattle.sp_base.specs.Shelf.{Files};
@@ -11,21 +12,24 @@ ghost use Rattle.sp_engine.specs.Formats.{format_of};
 ghost use Rattle.sp_engine.specs.Notes.{AreAnswers, is_answer, is_absence, is_overrun, is_fault, shelf_state};
 ghost use Rattle.sp_engine.specs.ReadEnds.{bytes_notes};
 ghost use Rattle.sp_engine.specs.Replies.{is_refused};
+ghost use Rattle.sp_model.specs.Cuts.{IsGap};
 ghost use Rattle.sp_model.specs.Models.{root_of};
-ghost use Rattle.sp_shell.specs.InnerReplies.{CanPrint, printed_text};
+ghost use Rattle.sp_shell.specs.InnerReplies.{CanPrint, named_of, printed_text};
 ghost use Rattle.sp_shell.specs.Replies.{refusal_text};
-ghost use Rattle.sp_shell.specs.Runs.{asked, file_word, status_by, RunText, RunUnsaid, Outcome};
+ghost use Rattle.sp_shell.specs.Runs.{settings_of, status_by, RunText, RunUnsaid, Outcome};
 ghost use Rattle.sp_shell.specs.Wording.{spelling};
 
 use crate::printing::print_refusal;
 use crate::replying::print_reply;
 use crate::wordings::{Wording, bytes_of};
+use sp_args::{Request, WordsRefusal, read_words};
 use sp_base::{Buffered, Shelf, Sink, SinkEnd, Source, Status, Text, WordList, write_all};
+use sp_draft::Names;
 use sp_engine::{
     Entry, FetchNote, FileFormat, Journal, Listing, NamedModel, ReadEnd, Refusal, Reply, format_of,
     list, read,
 };
-use sp_model::{Items, feasible_is_within};
+use sp_model::{Items, Model, feasible_is_within};
 use std::alloc::Global;
 
 /// How a run ended, and what it noted.
@@ -47,7 +51,7 @@ impl Ending {
 }
 
 ghost use Rattle.sp_shell.specs.InnerRuns.{IsRead, OwnNotes};
-ghost use Rattle.sp_shell.specs.InnerEndings.{status_after, Answers, EndsFile, IsWhole};
+ghost use Rattle.sp_shell.specs.InnerEndings.{status_after, Answers, EndsFile, EndsRun, IsWhole};
 
 /// The ending with this status and these notes.
 fn end_with(status: Status, entries: Vec<Entry>) -> Ending
@@ -84,33 +88,35 @@ fn push_note(entries: &mut Vec<Entry>, entry: Entry)
 /// Prints a reply and sends all of it.
 fn send_reply<K: Sink>(
     buffer: &mut Buffered<K>,
-    named: &NamedModel,
+    names: &Names,
+    model: &Model,
     reply: &Reply,
     notes: &[Entry],
 ) -> Result<(), SinkEnd>
     requires waits { waiting_of buffer.old ≡ [] }
-    requires printable { CanPrint named.now notes.now reply.now }
+    requires printable { CanPrint (named_of names.now model.now) notes.now reply.now }
     ensures { Sends K.Sink result (inner_of buffer.old) (inner_of buffer.new)
-        (printed_text named.now notes.now reply.now) }
+        (printed_text (named_of names.now model.now) notes.now reply.now) }
 {
-    let written = print_reply(buffer, named, reply, notes);
+    let written = print_reply(buffer, names, model, reply, notes);
     buffer.finish(written)
 }
 
 /// Prints the reply of the list, whose notes stand behind the read's, and ends with the status that the reply asks for.
 fn end_with_list<K: Sink>(
     buffer: &mut Buffered<K>,
-    named: &NamedModel,
+    names: &Names,
+    model: &Model,
     reply: &Reply,
     entries: Vec<Entry>,
 ) -> Ending
     requires waits { waiting_of buffer.old ≡ [] }
-    requires printable { CanPrint named.now entries.items reply.now }
+    requires printable { CanPrint (named_of names.now model.now) entries.items reply.now }
     ensures entries { result.journal.entries ≡ entries.items }
     ensures answered { Answers K.Sink (status_by (is_refused reply.now)) result.status (inner_of buffer.old)
-        (inner_of buffer.new) (printed_text named.now entries.items reply.now) }
+        (inner_of buffer.new) (printed_text (named_of names.now model.now) entries.items reply.now) }
 {
-    let sent = send_reply(buffer, named, reply, entries.as_slice());
+    let sent = send_reply(buffer, names, model, reply, entries.as_slice());
     end_with(status_of(sent, status_for(reply)), entries)
 }
 
@@ -130,29 +136,37 @@ fn list_model<K: Sink>(
     alloc: Global,
     bytes: Text,
     named: NamedModel,
+    request: &Request,
     mut entries: Vec<Entry>,
     buffer: &mut Buffered<K>,
 ) -> Ending
     requires named { length named.names ≡ length (root_of named.model) }
+    requires gaps { IsGap request.now.gaps.abs × IsGap request.now.gaps.rel }
     requires empty { entries.items ≡ [] }
     requires waits { waiting_of buffer.old ≡ [] }
     requires room { vec_len entries < vec_capacity entries }
     ensures notes { OwnNotes (Entry.Fetched (FetchNote.Bytes bytes)) result.journal.entries }
     ensures same { K.name (inner_of buffer.new) ≡ K.name (inner_of buffer.old) }
-    ensures ends { (files : Option Files) (name : List ℕ) → IsRead files name bytes named
-        → EndsFile K.Sink files name result (inner_of buffer.old) (inner_of buffer.new) }
+    ensures ends { let settings = settings_of request.now in
+        (files : Option Files) (name : List ℕ) → IsRead settings files name bytes named
+        → EndsFile K.Sink settings files name result (inner_of buffer.old) (inner_of buffer.new) }
 {
     feasible_is_within();
     // that the model is lawful is known of its parts
     let _parts = named.model.parts();
     push_note(&mut entries, Entry::Fetched(FetchNote::Bytes(bytes)));
-    let Ok(listing) = list(alloc, &named) else {
+    let Ok(listing) = list(alloc, named, &request.gaps, request.nodes) else {
         return end_with(Status::NoMemory, entries);
     };
-    let Listing { mut notes, reply } = listing;
+    let Listing {
+        names,
+        state,
+        mut notes,
+        reply,
+    } = listing;
     match entries.append(&mut notes) {
         Err(_) => end_with(Status::NoMemory, entries),
-        Ok(()) => end_with_list(buffer, &named, &reply, entries),
+        Ok(()) => end_with_list(buffer, &names, state.model(), &reply, entries),
     }
 }
 
@@ -161,15 +175,18 @@ fn list_buffered<K: Sink>(
     alloc: Global,
     bytes: Text,
     named: NamedModel,
+    request: &Request,
     mut entries: Vec<Entry>,
     sink: &mut K,
 ) -> Ending
     requires named { length named.names ≡ length (root_of named.model) }
+    requires gaps { IsGap request.now.gaps.abs × IsGap request.now.gaps.rel }
     requires empty { entries.items ≡ [] }
     requires room { vec_len entries < vec_capacity entries }
     ensures notes { OwnNotes (Entry.Fetched (FetchNote.Bytes bytes)) result.journal.entries }
-    ensures ends { (files : Option Files) (name : List ℕ) → IsRead files name bytes named
-        → EndsFile K.Sink files name result sink.old sink.new }
+    ensures ends { let settings = settings_of request.now in
+        (files : Option Files) (name : List ℕ) → IsRead settings files name bytes named
+        → EndsFile K.Sink settings files name result sink.old sink.new }
 {
     match Buffered::new(alloc, sink) {
         Err(_sink) => {
@@ -177,7 +194,7 @@ fn list_buffered<K: Sink>(
             end_with(Status::NoMemory, entries)
         }
         Ok(mut buffer) => {
-            let ending = list_model(alloc, bytes, named, entries, &mut buffer);
+            let ending = list_model(alloc, bytes, named, request, entries, &mut buffer);
             // the sink is taken back since this alone tells what it is in the end
             let _sink = buffer.into_inner();
             ending
@@ -229,50 +246,56 @@ fn end_without_memory(mut entries: Vec<Entry>, bytes: Option<Text>) -> Ending
     }
 }
 
-/// Reads the file that the words name from the shelf and lists its model. There is room for the shelf's answer.
+/// Reads the file that the words ask for from the shelf and lists its model. There is room for the shelf's answer.
 fn read_and_list<F: Shelf, K: Sink>(
     alloc: Global,
-    name: &Text,
+    request: &Request,
     format: FileFormat,
     entries: Vec<Entry>,
     shelf: &mut F,
     sink: &mut K,
 ) -> Ending
-    requires format { format_of name.now ≡ Some format }
+    requires format { format_of request.now.file ≡ Some format }
+    requires gaps { IsGap request.now.gaps.abs × IsGap request.now.gaps.rel }
     requires empty { entries.items ≡ [] }
     requires room { vec_len entries < vec_capacity entries }
-    ensures ends { EndsFile K.Sink (F.files shelf.old) name.now result sink.old sink.new }
+    ensures ends { EndsFile K.Sink (settings_of request.now) (F.files shelf.old) request.now.file result sink.old sink.new }
     ensures noted { AreAnswers result.journal.entries (shelf_state F.Shelf shelf.old) (shelf_state F.Shelf shelf.new) }
 {
-    match read(alloc, name, format, 0, shelf) {
-        ReadEnd::Accepted { bytes, named } => list_buffered(alloc, bytes, named, entries, sink),
+    match read(alloc, &request.file, format, 0, shelf) {
+        ReadEnd::Accepted { bytes, named } => {
+            list_buffered(alloc, bytes, named, request, entries, sink)
+        }
         ReadEnd::Refused { answer, why } => refuse(sink, entries, answer, why),
         ReadEnd::NoMemory { bytes } => end_without_memory(entries, bytes),
     }
 }
 
-/// The file that the words name: the only word, which has no dash in front.
-fn named_file(words: &[Text]) -> Option<&Text>
-    ensures { MatchOption result (file_word words.now ≡ None) (λ name. file_word words.now ≡ Some name.now) }
+/// Ends where the words ask for nothing: with the usage line, or without memory.
+fn end_unread<K: Sink>(alloc: Global, why: WordsRefusal, sink: &mut K) -> Ending
+    ensures entries { result.journal.entries ≡ [] }
+    ensures ends { (files : Option Files) (words : List (List ℕ))
+        → (why ≡ WordsRefusal.NoMemory) ⊎ IsNoReading words
+        → EndsRun K.Sink files words result sink.old sink.new }
 {
-    match words {
-        [word] => match word.as_slice().first() {
-            Some(b'-') => None,
-            _ => Some(word),
-        },
-        _ => None,
+    match why {
+        WordsRefusal::NoMemory => end_with(Status::NoMemory, Vec::new(alloc)),
+        WordsRefusal::Usage => {
+            end_with_line(sink, Vec::new(alloc), Wording::Usage, Status::Usage)
+        }
     }
 }
 
-/// Carries out the words of the command line: asks the shelf for the model file that they name, lists all its optimal
-/// points, and prints the reply to the sink. The source isn't read.
+/// Carries out the words of the command line: asks the shelf for the model file that they name, lists its points within
+/// the gaps, and prints the reply to the sink. The source isn't read.
 ///
 /// The text that is printed, the journal and the status fit one another, whatever the words and whatever the shelf
-/// gives: `optimum` is the optimum, the solution lines are exactly the feasible points of that objective, each once, in
-/// lexicographic order, and `nodelimit` comes only where the tree of the model has no room.
+/// gives: `optimum` is the optimum, the solution lines are exactly the feasible points within both gaps of it, each once,
+/// best objective first and then in lexicographic order, and `nodelimit` comes only where the tree has no room for another
+/// split and the model's largest tree passes the limit.
 ///
 /// `NoMemory` comes in the middle of the text only from a sink that takes memory, and else before any text went out,
-/// while the file was fetched or its model listed.
+/// while the words were read, the file was fetched or its model listed.
 pub fn run<S: Source, F: Shelf, K: Sink>(
     alloc: Global,
     words: &WordList,
@@ -281,8 +304,8 @@ pub fn run<S: Source, F: Shelf, K: Sink>(
     sink: &mut K,
 ) -> Ending
     // what was printed, noted and answered
-    ensures outcome { let what = asked words.now in
-        Outcome K.takes_memory (RunText (F.files shelf.old) what) (RunUnsaid (F.files shelf.old) what)
+    ensures outcome { let files = F.files shelf.old in
+        Outcome K.takes_memory (RunText files words.now) (RunUnsaid files words.now)
         result.journal.entries result.status (K.held sink.old) (K.held sink.new) }
 
     // the cause of a sink's fault
@@ -306,9 +329,9 @@ pub fn run<S: Source, F: Shelf, K: Sink>(
 {
     // no words read the source yet
     let _ = source;
-    match named_file(words.as_slice()) {
-        None => end_with_line(sink, Vec::new(alloc), Wording::Usage, Status::Usage),
-        Some(name) => match format_of(name.as_slice()) {
+    match read_words(alloc, words) {
+        Err(why) => end_unread(alloc, why, sink),
+        Ok(request) => match format_of(request.file.as_slice()) {
             None => end_with_line(
                 sink,
                 Vec::new(alloc),
@@ -317,7 +340,7 @@ pub fn run<S: Source, F: Shelf, K: Sink>(
             ),
             Some(format) => match Vec::with_capacity(alloc, 1) {
                 Err(_) => end_with(Status::NoMemory, Vec::new(alloc)),
-                Ok(entries) => read_and_list(alloc, name, format, entries, shelf, sink),
+                Ok(entries) => read_and_list(alloc, &request, format, entries, shelf, sink),
             },
         },
     }

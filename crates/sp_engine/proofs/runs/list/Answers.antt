@@ -1,9 +1,15 @@
-use Rattle.std.proofs.Common.{◌∙◌, ap}
-use Rattle.sp_engine.specs.Listing.{serials_from}
-use Rattle.sp_engine.proofs.ListLemmas.{is_listing}
+use Rattle.std.proofs.Common.{◌≡◌, ◌∙◌, refl, subst}
+use Rattle.sp_model.specs.declared.parts.ModelParts.{ModelParts}
+use Rattle.sp_engine.proofs.FirstRunLemmas.{is_listing}
+use Rattle.sp_engine.specs.declared.runs.Listing.{Listing}
+use Rattle.sp_engine.specs.InnerRuns.{IsFirstRun}
+use Rattle.sp_engine.specs.Views.{Settings, settings_with}
 use Rattle.sp_engine.proofs.runs.list.Goals as goal
 
 pub returns : goal.returns
 returns c =
-    is_listing c.args.named.now c.in_ok-best.field-0 _ c.in_ok-serials.serials.items c.in_ok-notes.notes.items c.in_ok-best.ensures
-    c.reply_to-reply.ensures (c.in_ok-serials.ensures ∙ ap (serials_from 1) (c.len.ensures ∙ c.in_ok-best.field-0.listed.ok.0)) c.in_ok-notes.ensures c.in_ok-push.ensures.items
+    let settings : Settings = settings_with c.args.gaps.now c.args.node_limit in
+    let said = c.in_ok-notes.field-0 in
+    let made : Listing = record { names = c.args.named.names; state = c.run_new.new.state; notes = said.notes; reply = said.reply } in
+    let model : c.run_new.new.state.model ≡ c.args.named.model = c.in_ok-notes.ensures.model ∙ c.in_ok-state.ensures.model in
+    is_listing c.args.named settings made refl model (subst (λ (m : ModelParts). IsFirstRun m settings said.notes.items said.reply) model c.in_ok-notes.ensures.run)

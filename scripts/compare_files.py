@@ -23,6 +23,7 @@ TOP = pathlib.Path(__file__).resolve().parent.parent
 PROGRAM = pathlib.Path(os.environ.get("SOLPOOL", TOP / "crates" / "solpool" / "out" / "solpool"))
 NUMBERS = ["1", "1", "2", "3", "-1", "-2", "0.5", "1.25", "-0.1", ".3", "2e0", "10", "0", "7e-2"]
 ENDLESS = 10 ** 20
+NODE_LIMIT = 200_000
 RARE = ["1e15", "1e16", "-1e20", "1e30", "inf", "1e-31", "999999999999999999999999999999", "1e-30"]
 
 
@@ -212,8 +213,9 @@ def random_words(draw):
 
 
 def is_stopped(lines, limit):
-    """Whether the lines say that a tree with an odd number of nodes had no room under this limit."""
-    if limit is None or len(lines) != 2 or lines[0] != "status nodelimit" or not lines[1].startswith("nodes "):
+    """Whether the lines say that a tree with an odd number of nodes had no room under the limit, 200,000 where none is set."""
+    limit = NODE_LIMIT if limit is None else limit
+    if len(lines) != 2 or lines[0] != "status nodelimit" or not lines[1].startswith("nodes "):
         return False
     nodes = int(lines[1].removeprefix("nodes "))
     return nodes % 2 == 1 and nodes <= limit < nodes + 2

@@ -52,8 +52,8 @@ def line(program, folder, name, text):
     """A line of the table."""
     path = pathlib.Path(folder, name)
     path.write_text(text)
-    seconds, printed = best(program, [name], folder)
-    held = peak(program, [name], folder)
+    seconds, printed = best(program, ["--nodes", "1", name], folder)
+    held = peak(program, ["--nodes", "1", name], folder)
     answer = printed.decode().split("\n")[0]
     size = path.stat().st_size / 2 ** 20
     return f"| {name} | {size:.1f} | {seconds:.2f} | {'-' if held is None else f'{held / 1024:.0f}'} | `{answer}` |"
@@ -69,7 +69,7 @@ def main():
 
 Written by `bench/files.py`, on {machine()}.
 Each file has 2,000 integer variables, 2,000 rows and 200,000 terms with decimals of four places; in the long ones a name has
-some 85 bytes. The program reads the file, lowers it, builds the model, and says that its box has too many points to walk.
+some 85 bytes. The program reads the file, lowers it, builds the model, begins its search, and stops at the first node.
 Seconds are the least of three runs, memory is the peak as `/usr/bin/time` tells it.
 
 | File | MiB | Seconds | Peak memory, MiB | Printed first |

@@ -5,7 +5,7 @@ docs/performance.md.
 usage: bench/alternatives.py        after the program was built, as by ./solpool
 
 Beside it, where they are installed: clasp (all points of an OPB file that holds the bound which the gap allows), glpsol in a
-loop that cuts off each point found, and a walk over all points in C for the small ones. Each has the same ten seconds.
+loop that cuts off each point found, and a walk over all points in C for the small ones. Each has the same five seconds.
 """
 import pathlib
 import re
@@ -17,7 +17,7 @@ import time
 from families import assignment, demo, free, halves, queens
 from tables import best, built, machine, peak, put
 
-BUDGET = 10
+BUDGET = 5
 RUNS = 2
 
 CASES = [(demo(24), 0), (demo(24), 20), (demo(40), 0), (demo(40), 20), (demo(60), 0), (demo(60), 5), (demo(60), 20),
@@ -67,7 +67,11 @@ def glpsol_loop(folder, model, gap):
         pathlib.Path(folder, "g.lp").write_text(longer.lp())
         subprocess.run(["glpsol", "--lp", "g.lp", "-w", "g.sol", "--tmlim", str(BUDGET)], cwd=folder,
                        stdout=subprocess.DEVNULL, check=False)
-        lines = pathlib.Path(folder, "g.sol").read_text().splitlines()
+        solved = pathlib.Path(folder, "g.sol")
+        if not solved.exists():
+            return None
+        lines = solved.read_text().splitlines()
+        solved.unlink()
         told_line = next(line for line in lines if line.startswith("s mip"))
         status, value = told_line.split()[4], float(told_line.split()[5])
         if status != "o":
@@ -160,7 +164,7 @@ def main():
 Written by `bench/alternatives.py`, on {machine()}. Seconds of
 `solpool --absgap GAP FILE`, the least of two runs, output in a file, and its peak memory in MiB. Beside it what others take
 for all points within the same gap: clasp is told the optimum and counts the points of an OPB file that holds it; glpsol is
-started anew for each point, which a row then cuts off; the C program walks over all points, twice. Each has ten seconds.
+started anew for each point, which a row then cuts off; the C program walks over all points, twice. Each has five seconds.
 
 | Model and gap | Solutions | Seconds | MiB | clasp | glpsol, in a loop | C, all points |
 |---|---|---|---|---|---|---|

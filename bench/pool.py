@@ -35,7 +35,7 @@ def offered(program, members, folder):
     filled = spent(program, ["fill", str(members), "0"], folder)
     whole = spent(program, ["fill", str(members), str(OFFERS)], folder)
     small, large = (peak(program, ["fill", str(count), "0"], folder) for count in (1, members))
-    held = None if small is None or large is None else (large - small) * 1024 / members
+    held = None if small is None or large is None or members < 10_000 else (large - small) * 1024 / members
     return 1e6 * (whole - filled) / OFFERS, 1e6 * (filled - empty) / members, held
 
 

@@ -75,7 +75,7 @@ judge 'a file that can be read' 0 "$listing" free.lp
 judge 'a path with a folder in it' 0 "$listing" "$folder/free.lp"
 judge 'a file that is not there' 1 'refused 51 file absent' none.lp
 judge 'a folder as FILE' 1 'refused 52 file fault' folder.lp
-judge 'a name that is not UTF-8' 1 'refused 51 file absent' $'caf\xe9.lp'
+judge 'a name that is not UTF-8' 2 "$usage" $'caf\xe9.lp'
 judge 'an empty file' 1 'refused 1 syntax line 1' empty.lp
 judge 'a file of 2^26 bytes' 1 'refused 1 syntax line 1' full.lp
 judge 'a file of 2^26 + 1 bytes' 1 'refused 53 file too long' over.lp

@@ -1,6 +1,6 @@
 //! The way to a box: the branches that lead there from a first box, and what takes them back.
 
-ghost use Rattle.std.specs.Prelude.{◌≡◌, ◌≤◌, ◌≤ℤ◌, ◌<ℤ◌, [], ◌∷◌, ◌++◌, length, slice_set, take, IfNone, IfOk, IfSome, IsTrue, OnErr};
+ghost use Rattle.std.specs.Prelude.{◌≡◌, ◌↔◌, ℕ, ◌≤◌, ◌≤ℤ◌, ◌<ℤ◌, [], ◌∷◌, ◌++◌, length, slice_set, take, IfNone, IfOk, IfSome, IsTrue, OnErr};
 ghost use Rattle.sp_model.specs.Boxes.{Bounds, CanSplit, range_at};
 ghost use Rattle.sp_sums.specs.Ranges.{IsChange, IsInside};
 ghost use Rattle.sp_activity.specs.Paths.{IsTrailTo, branches, child, left_of};
@@ -99,11 +99,13 @@ impl Trail {
         }
     }
 
-    /// How many branches the trail and a path begin with alike.
+    /// How many branches the trail and a path begin with alike: no longer front of both is the same.
     pub fn shared(&self, path: &[Branch]) -> usize
         ensures within_trail { result ≤ length self.now }
         ensures within_path { result ≤ length path.now }
         ensures same { take result (branches self.now) ≡ take result path.now }
+        ensures longest { (n : ℕ) → n ≤ length self.now → n ≤ length path.now
+            → take n (branches self.now) ≡ take n path.now → n ≤ result }
     {
         shared_front(self.pasts.as_slice(), path)
     }
@@ -125,7 +127,7 @@ fn left_of(range: &(i64, i64), branch: &Branch) -> (i64, i64)
 
 /// Whether two branches are the same.
 fn is_same(one: &Branch, other: &Branch) -> bool
-    ensures { IsTrue result → one.now ≡ other.now }
+    ensures { IsTrue result ↔ (one.now ≡ other.now) }
 {
     one.var.index() == other.var.index() && one.at == other.at && one.above == other.above
 }
@@ -134,6 +136,8 @@ fn shared_front(trail: &[Past], path: &[Branch]) -> usize
     ensures within_trail { result ≤ length trail.now }
     ensures within_path { result ≤ length path.now }
     ensures same { take result (branches trail.now) ≡ take result path.now }
+    ensures longest { (n : ℕ) → n ≤ length trail.now → n ≤ length path.now
+        → take n (branches trail.now) ≡ take n path.now → n ≤ result }
 {
     let most = trail.len().min(path.len());
     for at in 0..most {

@@ -9,7 +9,7 @@ loop-at-preserved c =
     let in_trail : c.loop-at.at < length c.args.trail.now = omega arith in
     let in_path : c.loop-at.at < length c.args.path.now = omega arith in
     let alike : c.index-trail-at.result.branch ≡ c.index-path-at.result =
-    ap (λ (p : Past). p.branch) c.index-trail-at.is ∙ c.is_same.ensures c.if-not-is_same.false in
+    ap (λ (p : Past). p.branch) c.index-trail-at.is ∙ c.is_same.ensures.0 c.if-not-is_same.false in
     let there : get_or (branches c.args.trail.now) c.loop-at.at c.index-path-at.result ≡ get_or c.args.path.now c.loop-at.at c.index-path-at.result =
     get_or-map (λ (p : Past). p.branch) c.args.trail.now c.loop-at.at c.index-trail-at.result c.index-path-at.result in_trail
     ∙ ap (λ (p : Past). p.branch) (sym c.index-trail-at.is) ∙ alike ∙ c.index-path-at.is in

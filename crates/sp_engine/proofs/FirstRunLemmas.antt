@@ -27,7 +27,7 @@ use Rattle.sp_populate.specs.declared.populating.PopEnd.TheVariants as pop
 use Rattle.sp_engine.specs.declared.journals.Entry.{Entry}
 use Rattle.sp_engine.specs.declared.journals.RunEnd.{RunEnd}
 use Rattle.sp_engine.specs.declared.journals.RunEnd.TheVariants as end
-use Rattle.sp_engine.specs.declared.models.NamedModel.{NamedModel}
+use Rattle.sp_meaning.specs.declared.models.NamedModel.{NamedModel}
 use Rattle.sp_engine.specs.declared.replies.Reply.{Reply}
 use Rattle.sp_engine.specs.declared.runs.Listing.{Listing}
 use Rattle.sp_engine.specs.InnerRuns.{IsFirstRun, IsFresh, IsListedBy, IsReplyOf, ListsOf, RepliesTo, first_run, run_end}

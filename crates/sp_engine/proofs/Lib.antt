@@ -1,6 +1,3 @@
 mod FirstRunLemmas
-mod FaultLemmas
-mod ModelLemmas
-mod MeaningLemmas
 mod ReadLemmas
 mod SessionLemmas

@@ -7,15 +7,15 @@ use Rattle.sp_base.specs.declared.shelves.Fetched.TheVariants as fetched
 use Rattle.sp_engine.specs.declared.journals.Entry.TheVariants as entry
 use Rattle.sp_engine.specs.declared.journals.FetchNote.{FetchNote}
 use Rattle.sp_engine.specs.declared.journals.FetchNote.TheVariants as note
-use Rattle.sp_engine.specs.declared.models.Meaning.{Meaning}
-use Rattle.sp_engine.specs.declared.models.Meaning.TheVariants as meant
-use Rattle.sp_engine.specs.declared.models.NamedModel.{NamedModel}
+use Rattle.sp_meaning.specs.declared.models.Meaning.{Meaning}
+use Rattle.sp_meaning.specs.declared.models.Meaning.TheVariants as meant
+use Rattle.sp_meaning.specs.declared.models.NamedModel.{NamedModel}
 use Rattle.sp_engine.specs.declared.reading.ReadEnd.{ReadEnd}
 use Rattle.sp_engine.specs.declared.reading.ReadEnd.TheVariants as ended
-use Rattle.sp_engine.specs.declared.replies.Refusal.{Refusal}
-use Rattle.sp_engine.specs.declared.replies.Refusal.TheVariants as refusal
-use Rattle.sp_engine.specs.InnerModels.{IsPaired}
-use Rattle.sp_engine.specs.Models.{Means}
+use Rattle.sp_meaning.specs.declared.refusals.Refusal.{Refusal}
+use Rattle.sp_meaning.specs.declared.refusals.Refusal.TheVariants as refusal
+use Rattle.sp_meaning.specs.Models.{IsPaired}
+use Rattle.sp_meaning.specs.Models.{Means}
 use Rattle.sp_engine.specs.Notes.{AreAnswers, ShelfState, answer_of}
 use Rattle.sp_engine.specs.ReadEnds.{IsReadOf, IsRunnable, ReadSays, bytes_notes, read_notes}
 use Rattle.sp_engine.specs.Views.{View, read_limit}

@@ -12,7 +12,7 @@ use Rattle.sp_engine.specs.Replies.{is_listed}
 use Rattle.sp_engine.specs.Notes.{run_notes}
 use Rattle.sp_engine.specs.Sessions.{Says, end_of_run, share_of}
 use Rattle.sp_engine.specs.Listing.{ListsModel, RepliesAfter, SaysList}
-use Rattle.sp_engine.specs.declared.models.NamedModel.{NamedModel}
+use Rattle.sp_meaning.specs.declared.models.NamedModel.{NamedModel}
 use Rattle.sp_engine.specs.Views.{View}
 
 -- a run's notes end with the first note that ends a run

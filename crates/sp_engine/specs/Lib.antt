@@ -1,5 +1,3 @@
-pub mod Formats
-pub mod Models
 pub mod Notes
 pub mod Views
 pub mod LegalRuns
@@ -11,4 +9,3 @@ pub mod Listing
 pub mod Runs
 pub mod Sessions
 pub mod InnerRuns
-pub mod InnerModels

@@ -3,7 +3,7 @@ use Rattle.std.specs.Prelude.{◌≡◌, ℕ, ◌≤◌, List, ◌++◌, length,
 use Rattle.sp_engine.specs.declared.journals.Entry.{Entry}
 use Rattle.sp_engine.specs.declared.journals.RunEnd.{RunEnd}
 use Rattle.sp_engine.specs.declared.journals.RunEnd.TheVariants as end
-use Rattle.sp_engine.specs.declared.models.NamedModel.{NamedModel}
+use Rattle.sp_meaning.specs.declared.models.NamedModel.{NamedModel}
 use Rattle.sp_engine.specs.declared.replies.Reply.{Reply}
 use Rattle.sp_engine.specs.declared.replies.Reply.TheVariants as reply
 use Rattle.sp_engine.specs.LegalRuns.{IsLegalRun, asked_of}

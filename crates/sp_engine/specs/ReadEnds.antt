@@ -4,11 +4,11 @@ use Rattle.sp_model.specs.Models.{root_of}
 use Rattle.sp_engine.specs.declared.journals.Entry.{Entry}
 use Rattle.sp_engine.specs.declared.journals.Entry.TheVariants as entry
 use Rattle.sp_engine.specs.declared.journals.FetchNote.TheVariants as note
-use Rattle.sp_engine.specs.declared.models.Meaning.TheVariants as meant
+use Rattle.sp_meaning.specs.declared.models.Meaning.TheVariants as meant
 use Rattle.sp_engine.specs.declared.reading.ReadEnd.{ReadEnd}
 use Rattle.sp_engine.specs.declared.reading.ReadEnd.TheVariants as ended
 use Rattle.sp_engine.specs.declared.replies.Reply.TheVariants as reply
-use Rattle.sp_engine.specs.Models.{Means}
+use Rattle.sp_meaning.specs.Models.{Means}
 use Rattle.sp_engine.specs.Reading.{SaysRead, WantsInRead, fetched_more, with_model}
 use Rattle.sp_engine.specs.Views.{View}
 

@@ -6,14 +6,14 @@ use Rattle.sp_engine.specs.declared.journals.Entry.{Entry}
 use Rattle.sp_engine.specs.declared.journals.Entry.TheVariants as entry
 use Rattle.sp_engine.specs.declared.journals.FetchNote.{FetchNote}
 use Rattle.sp_engine.specs.declared.journals.FetchNote.TheVariants as note
-use Rattle.sp_engine.specs.declared.models.Meaning.{Meaning}
-use Rattle.sp_engine.specs.declared.models.Meaning.TheVariants as meant
-use Rattle.sp_engine.specs.declared.models.NamedModel.{NamedModel}
-use Rattle.sp_engine.specs.declared.replies.Refusal.{Refusal}
-use Rattle.sp_engine.specs.declared.replies.Refusal.TheVariants as refusal
+use Rattle.sp_meaning.specs.declared.models.Meaning.{Meaning}
+use Rattle.sp_meaning.specs.declared.models.Meaning.TheVariants as meant
+use Rattle.sp_meaning.specs.declared.models.NamedModel.{NamedModel}
+use Rattle.sp_meaning.specs.declared.refusals.Refusal.{Refusal}
+use Rattle.sp_meaning.specs.declared.refusals.Refusal.TheVariants as refusal
 use Rattle.sp_engine.specs.declared.replies.Reply.{Reply}
 use Rattle.sp_engine.specs.declared.replies.Reply.TheVariants as reply
-use Rattle.sp_engine.specs.Models.{Means}
+use Rattle.sp_meaning.specs.Models.{Means}
 use Rattle.sp_engine.specs.Notes.{answer_of}
 use Rattle.sp_engine.specs.Views.{View, read_limit}
 

@@ -3,7 +3,8 @@ use Rattle.std.specs.Prelude.{ℕ, ◌^◌, ◌-◌, min, Bool, List, [], ◌∷
 use Rattle.std.specs.List.{list_all}
 use Rattle.sp_base.specs.Shelf.{Files}
 use Rattle.sp_model.specs.declared.gaps.Gaps.{Gaps}
-use Rattle.sp_engine.specs.declared.models.NamedModel.{NamedModel}
+use Rattle.sp_meaning.specs.declared.models.NamedModel.{NamedModel}
+use Rattle.sp_meaning.specs.Formats.{file_limit}
 
 -- what the user can set
 pub record Settings : Type 0 where
@@ -44,10 +45,7 @@ begun settings files =
 abbrev pub point_of : List (List ℤ) → ℕ → List ℤ
 point_of found serial = slice_index_or ([] ∷ found) serial []
 
--- the most bytes of one file, and those of all files of a session
-abbrev pub file_limit : ℕ
-file_limit = 2 ^ 26
-
+-- the most bytes of all files of a session
 abbrev pub session_limit : ℕ
 session_limit = 2 ^ 28
 

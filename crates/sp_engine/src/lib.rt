@@ -3,20 +3,15 @@
 #![tactic(auto)]
 
 mod commands;
-mod formats;
 mod journals;
-mod models;
 mod reading;
-mod refusing;
 mod replies;
 mod runs;
 mod session_laws;
 
 pub use commands::Command;
-pub use formats::{FileFormat, format_of};
 pub use journals::{Entry, FetchNote, Journal, RunEnd, StoreNote};
-pub use models::NamedModel;
 pub use reading::{ReadEnd, read};
-pub use replies::{Refusal, Reply};
+pub use replies::Reply;
 pub use runs::{Listing, list};
-pub use session_laws::{files_mean_one_thing, journal_is_divided_in_one_way, roomy_runs_list_all};
+pub use session_laws::{journal_is_divided_in_one_way, roomy_runs_list_all};

@@ -1,14 +1,12 @@
 //! Reading a model file from a shelf.
 ghost use Rattle.std.specs.Prelude.{◌≡◌, ◌≤◌, ℕ, List, length, Some};
-ghost use Rattle.sp_engine.specs.Formats.{format_of};
+ghost use Rattle.sp_meaning.specs.Formats.{file_limit, format_of};
 ghost use Rattle.sp_engine.specs.Notes.{AreAnswers, shelf_state};
-ghost use Rattle.sp_engine.specs.Views.{View, file_limit, limit_after};
+ghost use Rattle.sp_engine.specs.Views.{View, limit_after};
 
-use crate::formats::FileFormat;
 use crate::journals::FetchNote;
-use crate::models::{Meaning, NamedModel, meaning_of};
-use crate::replies::Refusal;
 use sp_base::{Fetched, Shelf, Text};
+use sp_meaning::{FileFormat, Meaning, NamedModel, Refusal, meaning_of};
 use std::alloc::Global;
 
 /// The most bytes of one file, 2^26.
@@ -41,8 +39,7 @@ pub enum ReadEnd {
     },
 }
 
-ghost use Rattle.sp_engine.specs.InnerModels.{IsPaired};
-ghost use Rattle.sp_engine.specs.Models.{Means};
+ghost use Rattle.sp_meaning.specs.Models.{IsPaired, Means};
 ghost use Rattle.sp_engine.specs.ReadEnds.{IsReadOf, ReadSays, IsRunnable, read_notes};
 
 /// The most bytes that the next file of a session may have, which fetched so many before.

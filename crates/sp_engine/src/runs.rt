@@ -7,12 +7,12 @@ ghost use Rattle.sp_search.specs.States.{IsCovered};
 ghost use Rattle.sp_populate.specs.Complete.{CanRun};
 
 use crate::journals::{Entry, RunEnd};
-use crate::models::NamedModel;
 use crate::replies::Reply;
 use sp_cover::covered_searches_find_all;
 use sp_draft::Names;
 use sp_filter::Filters;
 use sp_list::{Found, optimum_is_unique};
+use sp_meaning::NamedModel;
 use sp_model::{Gaps, Items, NoMemory, Point, feasible_is_within, objective_is_small};
 use sp_populate::{PopEnd, lists_without_filters, populate};
 use sp_search::{State, searches_are_small};

@@ -1,29 +1,13 @@
-//! Laws of files and sessions: each is the contract of a function that does nothing.
+//! Laws of sessions: each is the contract of a function that does nothing.
 ghost use Rattle.std.specs.Prelude.{◌≡◌, ◌≤◌, ◌++◌, ℕ, List, Some, length, true};
 ghost use Rattle.sp_engine.specs.declared.commands.Command.{Command as Asked};
-ghost use Rattle.sp_engine.specs.declared.formats.FileFormat.{FileFormat as Format};
 ghost use Rattle.sp_engine.specs.declared.journals.Entry.{Entry as Note};
-ghost use Rattle.sp_engine.specs.declared.models.Meaning.{Meaning as Said};
-ghost use Rattle.sp_engine.specs.declared.models.NamedModel.{NamedModel as Named};
+ghost use Rattle.sp_meaning.specs.declared.models.NamedModel.{NamedModel as Named};
 ghost use Rattle.sp_engine.specs.declared.replies.Reply.{Reply as Answer};
-ghost use Rattle.sp_engine.specs.Formats.{format_of};
 ghost use Rattle.sp_engine.specs.LegalRuns.{room_of};
-ghost use Rattle.sp_engine.specs.Models.{Means};
 ghost use Rattle.sp_engine.specs.Replies.{is_listed};
 ghost use Rattle.sp_engine.specs.Sessions.{Says, share_of};
 ghost use Rattle.sp_engine.specs.Views.{View};
-
-/// A law: the file of a name with some bytes means one thing, and each file whose name has a model's ending means
-/// something.
-pub fn files_mean_one_thing()
-    ensures one { (name bytes : List ℕ) (m n : Said) → Means name bytes m → Means name bytes n → m ≡ n }
-    ensures some { (name bytes : List ℕ) (format : Format) → format_of name ≡ Some format → (m : Said) × Means name bytes m }
-{
-    sp_lp::files_have_one_answer();
-    sp_lp::files_have_some_answer();
-    sp_mps::files_have_one_answer();
-    sp_mps::files_have_some_answer();
-}
 
 /// A law: of a journal, the notes of the first command are told by the command and the journal alone, so that it is
 /// divided among commands in one way.

@@ -21,20 +21,20 @@ use Rattle.sp_args.specs.declared.requests.Request.{Request}
 use Rattle.sp_args.specs.declared.requests.WordsRefusal.{WordsRefusal}
 use Rattle.sp_args.specs.declared.requests.WordsRefusal.TheVariants as refused
 use Rattle.sp_args.specs.Requests.{IsReading, IsNoReading}
-use Rattle.sp_engine.specs.declared.formats.FileFormat.{FileFormat}
+use Rattle.sp_meaning.specs.declared.formats.FileFormat.{FileFormat}
 use Rattle.sp_engine.specs.declared.journals.Entry.{Entry}
 use Rattle.sp_engine.specs.declared.journals.Entry.TheVariants as entry
 use Rattle.sp_engine.specs.declared.journals.FetchNote.{FetchNote}
 use Rattle.sp_engine.specs.declared.journals.FetchNote.TheVariants as note
 use Rattle.sp_engine.specs.declared.journals.RunEnd.{RunEnd}
 use Rattle.sp_engine.specs.declared.journals.RunEnd.TheVariants as end
-use Rattle.sp_engine.specs.declared.models.NamedModel.{NamedModel}
+use Rattle.sp_meaning.specs.declared.models.NamedModel.{NamedModel}
 use Rattle.sp_engine.specs.declared.reading.ReadEnd.TheVariants as ended
-use Rattle.sp_engine.specs.declared.replies.Refusal.{Refusal}
+use Rattle.sp_meaning.specs.declared.refusals.Refusal.{Refusal}
 use Rattle.sp_engine.specs.declared.replies.Reply.{Reply}
 use Rattle.sp_engine.specs.declared.replies.Reply.TheVariants as reply
 use Rattle.sp_engine.specs.declared.runs.Listing.{Listing}
-use Rattle.sp_engine.specs.Formats.{format_of}
+use Rattle.sp_meaning.specs.Formats.{format_of}
 use Rattle.sp_engine.specs.Listing.{IsSerial, ListsModel, RepliesAfter, after_run}
 use Rattle.sp_engine.specs.Notes.{AreAnswers, ShelfState, answer_of, is_answer, is_absence, is_overrun, is_fault, run_notes}
 use Rattle.sp_engine.specs.ReadEnds.{ReadSays, bytes_notes}
@@ -42,14 +42,14 @@ use Rattle.sp_engine.specs.Reading.{SaysRead, WantsInRead, fetched_more, with_mo
 use Rattle.sp_engine.specs.Replies.{is_refused}
 use Rattle.sp_engine.specs.Runs.{IsListing}
 use Rattle.sp_engine.specs.Views.{Settings, View, begun, point_of, read_limit}
-use Rattle.sp_shell.specs.declared.wordings.Wording.TheVariants as wording
-use Rattle.sp_shell.specs.Wording.{spelling}
+use Rattle.sp_printing.specs.declared.wordings.Wording.TheVariants as wording
+use Rattle.sp_printing.specs.Wording.{spelling}
 use Rattle.sp_draft.specs.SolutionLines.{solution_line}
-use Rattle.sp_shell.specs.Replies.{done_head, listed_text, refusal_text, reply_text}
+use Rattle.sp_printing.specs.Replies.{done_head, listed_text, refusal_text, reply_text}
 use Rattle.sp_shell.specs.Runs.{IsFileRun, Outcome, RequestText, RunText, RunUnsaid, Saying, Unsaid, settings_of, status_by}
 use Rattle.sp_shell.specs.Runs as run
 use Rattle.sp_shell.specs.InnerEndings.{status_after, Answered, Ended, IsWhole}
-use Rattle.sp_shell.specs.InnerReplies.{AreNoted, CanPrint, IsPrintable, entry_line, named_of, printed_text, serial_line}
+use Rattle.sp_printing.specs.Printing.{AreNoted, CanPrint, IsPrintable, entry_line, named_of, printed_text, serial_line}
 use Rattle.sp_shell.specs.InnerRuns.{IsRead, OwnNotes, is_own}
 
 -- a status that comes with a whole text, and what went out
@@ -121,107 +121,38 @@ listing_notes {named} {settings} {l} first entries i e =
 abbrev pub FeasibleWithin : ModelParts → Type 0
 FeasibleWithin m = (x : List ℤ) → Feasible m x → IsWithin (root_of m) x
 
--- each noted point can be printed
-printable_notes : (named : NamedModel) → FeasibleWithin named.model → (found : List (List ℤ)) (e : RunEnd) (nodes : ℕ) → length named.names ≡ length (root_of named.model)
-    → AllByRecursion (Feasible named.model) found → AllByRecursion (IsPrintable named) (run_notes found e nodes)
-printable_notes named within [] e nodes paired all = (tt, tt)
-printable_notes named within (x ∷ xs) e nodes paired all = ((within x all.0, (within x all.0).long ∙ sym paired), printable_notes named within xs e nodes paired all.1)
-
 same_answer : {one other : FetchNote} → entry.Fetched one ∷ [] ≡ entry.Fetched other ∷ [] → other ≡ one
 same_answer e = cc
 
-printable : {named : NamedModel} {settings : Settings} {l : Listing} → FeasibleWithin named.model → length named.names ≡ length (root_of named.model) → (answer : FetchNote) (entries : List Entry)
-    → IsListing named settings l → entries ≡ entry.Fetched answer ∷ l.notes.items → All (IsPrintable named) entries
-printable {named} {settings} {l} within paired answer entries i e =
-    subst (All (IsPrintable named)) (sym (e ∙ ap (λ es. entry.Fetched answer ∷ es) s.noted))
-    (All-from_recursion (IsPrintable named) (entry.Fetched answer ∷ run_notes s.found s.ended s.nodes)
-    (tt, printable_notes named within s.found s.ended s.nodes paired (recursion_from_All (Feasible named.model) s.found s.legal.feasible)))
-  where
-    s : ListsModel named (read_view settings None [] named) l.notes.items l.reply (after_run (read_view settings None [] named) i.found i.nodes)
-    s = listing_says settings None [] named l i
+-- what a law of printing says: the notes of a run, behind the read's, can be printed with its reply
+abbrev pub ArePrintable : Type 0
+ArePrintable = (named : NamedModel) (answer : FetchNote) (found : List (List ℤ)) (e : RunEnd) (nodes : ℕ) (after : View) (r : Reply)
+    → FeasibleWithin named.model → length named.names ≡ length (root_of named.model) → All (Feasible named.model) found
+    → after.found ≡ found → RepliesAfter e named nodes after r → IsSmall r → CanPrint named (entry.Fetched answer ∷ run_notes found e nodes) r
 
--- each serial of the reply is the place of a note
-places : (found : List (List ℤ)) (count : ℕ) (serials : List ℕ) → length found < count → AllByRecursion (IsSerial (length found)) serials → AllByRecursion (λ serial. serial < count) serials
-places found count [] more all = tt
-places found count (n ∷ ns) more all = (omega (arith, more, all.0.last), places found count ns more all.1)
-
-noted_reply : (e : RunEnd) (named : NamedModel) (nodes count : ℕ) (after : View) (r : Reply) → RepliesAfter e named nodes after r → length after.found < count → AreNoted count r
-noted_reply end.Done named nodes count after r h more =
-    subst (AreNoted count) (sym h.reply_is)
-    (All-from_recursion (λ serial. serial < count) h.serials (places after.found count h.serials more (recursion_from_All (IsSerial (length after.found)) h.serials h.known)))
-noted_reply end.NodeLimit named nodes count after r h more = subst (AreNoted count) (sym h) tt
-noted_reply end.Optimal named nodes count after r h more = absurd h
-noted_reply end.Infeasible named nodes count after r h more = absurd h
-noted_reply end.PopulateLimit named nodes count after r h more = absurd h
-
-notes_long : (answer : FetchNote) (found : List (List ℤ)) (e : RunEnd) (nodes : ℕ) → length found < length (entry.Fetched answer ∷ run_notes found e nodes)
-notes_long answer [] e nodes = omega arith
-notes_long answer (x ∷ xs) e nodes = let h : length xs < length (entry.Fetched answer ∷ run_notes xs e nodes) = notes_long answer xs e nodes in omega (arith, h)
-
-noted : {named : NamedModel} {settings : Settings} {l : Listing} (answer : FetchNote) (entries : List Entry)
-    → IsListing named settings l → entries ≡ entry.Fetched answer ∷ l.notes.items → AreNoted (length entries) l.reply
-noted {named} {settings} {l} answer entries i e =
-    noted_reply s.ended named s.nodes (length entries) _ l.reply s.reply_is
-    (subst (λ es. length (after_run (read_view settings None [] named) i.found i.nodes).found < length es) (sym (e ∙ ap (λ es. entry.Fetched answer ∷ es) s.noted))
-    (subst (λ xs. length xs < length (entry.Fetched answer ∷ run_notes s.found s.ended s.nodes)) (sym found) (notes_long answer s.found s.ended s.nodes)))
-  where
-    s : ListsModel named (read_view settings None [] named) l.notes.items l.reply (after_run (read_view settings None [] named) i.found i.nodes)
-    s = listing_says settings None [] named l i
-
-    found : (after_run (read_view settings None [] named) i.found i.nodes).found ≡ s.found
-    found = ap (λ (v : View). v.found) s.after_is
-
-pub can_print : {named : NamedModel} {settings : Settings} {l : Listing} → FeasibleWithin named.model → length named.names ≡ length (root_of named.model) → (answer : FetchNote) (entries : List Entry)
-    → IsListing named settings l → entries ≡ entry.Fetched answer ∷ l.notes.items → CanPrint named entries l.reply
-can_print within paired answer entries i e = record { small = i.small; noted = noted answer entries i e; each = printable within paired answer entries i e }
-
--- the note of a serial is that of its point
-note_of_point : (found : List (List ℤ)) (e : RunEnd) (nodes place : ℕ) → place < length found
-    → slice_index_or (run_notes found e nodes) place (entry.Ended end.Done 0) ≡ entry.Found (slice_index_or found place [])
-note_of_point [] e nodes place h = absurd (omega arith)
-note_of_point (x ∷ xs) e nodes zero h = refl
-note_of_point (x ∷ xs) e nodes (suc place) h = note_of_point xs e nodes place (omega arith)
-
-line_of_serial : (named : NamedModel) (answer : FetchNote) (found : List (List ℤ)) (e : RunEnd) (nodes serial : ℕ) → IsSerial (length found) serial
-    → serial_line named (entry.Fetched answer ∷ run_notes found e nodes) serial ≡ solution_line named.names named.model (point_of found serial)
-unfolding serial_line entry_line
-line_of_serial named answer found e nodes zero h = absurd (let low : 1 ≤ 0 = h.first in omega (arith, low))
-line_of_serial named answer found e nodes (suc place) h =
-    let below : place < length found = (let high : suc place ≤ length found = h.last in omega (arith, high)) in
-    ap (entry_line named) (note_of_point found e nodes place below)
-
-lines_of_serials : (named : NamedModel) (answer : FetchNote) (found : List (List ℤ)) (e : RunEnd) (nodes : ℕ) (serials : List ℕ)
-    → AllByRecursion (IsSerial (length found)) serials
-    → flat_map (serial_line named (entry.Fetched answer ∷ run_notes found e nodes)) serials ≡ flat_map (solution_line named.names named.model) (map (point_of found) serials)
-lines_of_serials named answer found e nodes [] all = refl
-lines_of_serials named answer found e nodes (n ∷ ns) all =
-    ap (λ text. text ++ flat_map (serial_line named (entry.Fetched answer ∷ run_notes found e nodes)) ns) (line_of_serial named answer found e nodes n all.0)
-    ∙ ap (λ text. solution_line named.names named.model (point_of found n) ++ text) (lines_of_serials named answer found e nodes ns all.1)
-
--- what is printed is the text of the reply
-text_fits : (named : NamedModel) (answer : FetchNote) (found : List (List ℤ)) (e : RunEnd) (nodes : ℕ) (after : View) (r : Reply)
+-- and what is printed then is the text of the reply
+abbrev pub AreTold : Type 0
+AreTold = (named : NamedModel) (answer : FetchNote) (found : List (List ℤ)) (e : RunEnd) (nodes : ℕ) (after : View) (r : Reply)
     → after.model ≡ Some named → after.found ≡ found → RepliesAfter e named nodes after r
     → printed_text named (entry.Fetched answer ∷ run_notes found e nodes) r ≡ reply_text after r
-unfolding printed_text
-text_fits named answer found end.Done nodes after r model same h =
-    ap (printed_text named (entry.Fetched answer ∷ run_notes found end.Done nodes)) h.reply_is
-    ∙ ap (λ text. done_head named.model h.optimum (length h.serials) ++ text)
-    (lines_of_serials named answer found end.Done nodes h.serials
-    (subst (λ xs. AllByRecursion (IsSerial (length xs)) h.serials) same (recursion_from_All (IsSerial (length after.found)) h.serials h.known)))
-    ∙ ap (λ n. done_head named.model h.optimum n ++ flat_map (solution_line named.names named.model) (map (point_of found) h.serials)) (sym (length-map h.serials (point_of found)))
-    ∙ sym (ap (reply_text after) h.reply_is ∙ ap (λ o. listed_text o after.found h.optimum h.serials) model ∙ ap (λ xs. listed_text (Some named) xs h.optimum h.serials) same)
-text_fits named answer found end.NodeLimit nodes after r model same h = ap (printed_text named (entry.Fetched answer ∷ run_notes found end.NodeLimit nodes)) h ∙ sym (ap (reply_text after) h)
-text_fits named answer found end.Optimal nodes after r model same h = absurd h
-text_fits named answer found end.Infeasible nodes after r model same h = absurd h
-text_fits named answer found end.PopulateLimit nodes after r model same h = absurd h
+
+pub can_print : {named : NamedModel} {settings : Settings} {l : Listing} → ArePrintable → FeasibleWithin named.model → length named.names ≡ length (root_of named.model) → (answer : FetchNote) (entries : List Entry)
+    → IsListing named settings l → entries ≡ entry.Fetched answer ∷ l.notes.items → CanPrint named entries l.reply
+can_print {named} {settings} {l} law within paired answer entries i e =
+    subst (λ es. CanPrint named es l.reply) (sym (e ∙ ap (λ es. entry.Fetched answer ∷ es) s.noted))
+    (law named answer s.found s.ended s.nodes (after_run (read_view settings None [] named) i.found i.nodes) l.reply within paired s.legal.feasible
+    (ap (λ (v : View). v.found) s.after_is) s.reply_is i.small)
+  where
+    s : ListsModel named (read_view settings None [] named) l.notes.items l.reply (after_run (read_view settings None [] named) i.found i.nodes)
+    s = listing_says settings None [] named l i
 
 -- The run of one file.
 
 -- the file was read as this model, and it was listed
-list_said : {settings : Settings} {files : Option Files} {name bytes : List ℕ} {named : NamedModel} {l : Listing} {entries : List Entry} (i : IsListing named settings l)
+list_said : AreTold → {settings : Settings} {files : Option Files} {name bytes : List ℕ} {named : NamedModel} {l : Listing} {entries : List Entry} (i : IsListing named settings l)
     → IsRead settings files name bytes named → entries ≡ entry.Fetched (note.Bytes bytes) ∷ l.notes.items
     → IsFileRun settings files name entries (printed_text named entries l.reply) (status_by (is_refused l.reply))
-list_said {settings} {files} {name} {bytes} {named} {l} {entries} i read e = record {
+list_said law {settings} {files} {name} {bytes} {named} {l} {entries} i read e = record {
   refused = is_refused l.reply;
   run = record {
     notes = entry.Fetched (note.Bytes bytes) ∷ [];
@@ -250,15 +181,15 @@ list_said {settings} {files} {name} {bytes} {named} {l} {entries} i read e = rec
     text : printed_text named entries l.reply ≡ reply_text (after_run (read_view settings files bytes named) i.found i.nodes) l.reply
     text =
         ap (λ es. printed_text named es l.reply) (e ∙ ap (λ es. entry.Fetched (note.Bytes bytes) ∷ es) s.noted)
-        ∙ text_fits named (note.Bytes bytes) s.found s.ended s.nodes (after_run (read_view settings files bytes named) i.found i.nodes) l.reply refl found s.reply_is
+        ∙ law named (note.Bytes bytes) s.found s.ended s.nodes (after_run (read_view settings files bytes named) i.found i.nodes) l.reply refl found s.reply_is
 
-pub list_ended : {k : Bool} {bytes : List ℕ} {named : NamedModel} {settings : Settings} {l : Listing} {before entries : List Entry} {s : Status} {old new : SinkState} (i : IsListing named settings l)
+pub list_ended : AreTold → {k : Bool} {bytes : List ℕ} {named : NamedModel} {settings : Settings} {l : Listing} {before entries : List Entry} {s : Status} {old new : SinkState} (i : IsListing named settings l)
     → before ≡ entry.Fetched (note.Bytes bytes) ∷ l.notes.items → entries ≡ before
     → (shown : NamedModel) → shown ≡ named → Answered k (status_by (is_refused l.reply)) s old new (printed_text shown before l.reply)
     → (files : Option Files) (name : List ℕ) → IsRead settings files name bytes named → Ended k (IsFileRun settings files name) (unsaid_of settings files name) entries s old new
-list_ended {k} {bytes} {named} {settings} {l} {before} {entries} {s} {old} {new} i e same shown is a files name read =
+list_ended law {k} {bytes} {named} {settings} {l} {before} {entries} {s} {old} {new} i e same shown is a files name read =
     subst (λ es. Ended k (IsFileRun settings files name) (unsaid_of settings files name) es s old new) (sym same)
-    (ended_of (IsFileRun settings files name) (unsaid_of settings files name) before (status_by (is_refused l.reply)) (whole_by (is_refused l.reply)) (list_said i read e)
+    (ended_of (IsFileRun settings files name) (unsaid_of settings files name) before (status_by (is_refused l.reply)) (whole_by (is_refused l.reply)) (list_said law i read e)
     (subst (λ n. Answered k (status_by (is_refused l.reply)) s old new (printed_text n before l.reply)) is a))
 
 -- memory was wanting before any text went out

@@ -4,7 +4,7 @@ use Rattle.std.specs.List.{list_all}
 use Rattle.sp_base.specs.Shelf.{Files}
 use Rattle.sp_engine.specs.declared.journals.Entry.{Entry}
 use Rattle.sp_engine.specs.declared.journals.Entry.TheVariants as entry
-use Rattle.sp_engine.specs.declared.models.NamedModel.{NamedModel}
+use Rattle.sp_meaning.specs.declared.models.NamedModel.{NamedModel}
 use Rattle.sp_engine.specs.declared.reading.ReadEnd.TheVariants as ended
 use Rattle.sp_engine.specs.ReadEnds.{ReadSays}
 use Rattle.sp_engine.specs.Views.{Settings, begun}

@@ -8,17 +8,17 @@ use Rattle.sp_base.specs.declared.statuses.Status.TheVariants as status
 use Rattle.sp_args.specs.declared.requests.Request.{Request}
 use Rattle.sp_args.specs.Requests.{IsReading, IsNoReading}
 use Rattle.sp_engine.specs.declared.commands.Command.TheVariants as command
-use Rattle.sp_engine.specs.declared.formats.FileFormat.{FileFormat}
+use Rattle.sp_meaning.specs.declared.formats.FileFormat.{FileFormat}
 use Rattle.sp_engine.specs.declared.journals.Entry.{Entry}
 use Rattle.sp_engine.specs.declared.replies.Reply.{Reply}
-use Rattle.sp_engine.specs.Formats.{format_of}
+use Rattle.sp_meaning.specs.Formats.{format_of}
 use Rattle.sp_engine.specs.Reading.{WantsInRead}
 use Rattle.sp_engine.specs.Replies.{is_refused}
 use Rattle.sp_engine.specs.Sessions.{Says}
 use Rattle.sp_engine.specs.Views.{Settings, View, begun, settings_with}
-use Rattle.sp_shell.specs.declared.wordings.Wording.TheVariants as wording
-use Rattle.sp_shell.specs.Replies.{reply_text}
-use Rattle.sp_shell.specs.Wording.{spelling}
+use Rattle.sp_printing.specs.declared.wordings.Wording.TheVariants as wording
+use Rattle.sp_printing.specs.Replies.{reply_text}
+use Rattle.sp_printing.specs.Wording.{spelling}
 
 -- The run of one file: it is read, and where it isn't refused, its solutions are listed.
 

@@ -8,28 +8,26 @@ ghost use Rattle.sp_base.specs.Counts.{Rose, RoseBy, raised_by};
 ghost use Rattle.sp_base.specs.Shelf.{Files};
 ghost use Rattle.sp_base.specs.Status.{code_of};
 ghost use Rattle.sp_base.specs.Writing.{Sends};
-ghost use Rattle.sp_engine.specs.Formats.{format_of};
+ghost use Rattle.sp_meaning.specs.Formats.{format_of};
 ghost use Rattle.sp_engine.specs.Notes.{AreAnswers, is_answer, is_absence, is_overrun, is_fault, shelf_state};
 ghost use Rattle.sp_engine.specs.ReadEnds.{bytes_notes};
 ghost use Rattle.sp_engine.specs.Replies.{is_refused};
 ghost use Rattle.sp_model.specs.Cuts.{IsGap};
 ghost use Rattle.sp_model.specs.Models.{root_of};
-ghost use Rattle.sp_shell.specs.InnerReplies.{CanPrint, named_of, printed_text};
-ghost use Rattle.sp_shell.specs.Replies.{refusal_text};
+ghost use Rattle.sp_printing.specs.Printing.{CanPrint, named_of, printed_text};
+ghost use Rattle.sp_printing.specs.Replies.{refusal_text};
 ghost use Rattle.sp_shell.specs.Runs.{settings_of, status_by, RunText, RunUnsaid, Outcome};
-ghost use Rattle.sp_shell.specs.Wording.{spelling};
+ghost use Rattle.sp_printing.specs.Wording.{spelling};
 
-use crate::printing::print_refusal;
-use crate::replying::print_reply;
-use crate::wordings::{Wording, bytes_of};
 use sp_args::{Request, WordsRefusal, read_words};
 use sp_base::{Buffered, Shelf, Sink, SinkEnd, Source, Status, Text, WordList, write_all};
 use sp_draft::Names;
-use sp_engine::{
-    Entry, FetchNote, FileFormat, Journal, Listing, NamedModel, ReadEnd, Refusal, Reply, format_of,
-    list, read,
-};
+use sp_engine::{Entry, FetchNote, Journal, Listing, ReadEnd, Reply, list, read};
+use sp_meaning::{FileFormat, NamedModel, Refusal, format_of};
 use sp_model::{Items, Model, feasible_is_within};
+use sp_printing::{
+    Wording, bytes_of, print_refusal, print_reply, printed_replies_are_told, runs_are_printable,
+};
 use std::alloc::Global;
 
 /// How a run ended, and what it noted.
@@ -152,6 +150,8 @@ fn list_model<K: Sink>(
         → EndsFile K.Sink settings files name result (inner_of buffer.old) (inner_of buffer.new) }
 {
     feasible_is_within();
+    runs_are_printable();
+    printed_replies_are_told();
     // that the model is lawful is known of its parts
     let _parts = named.model.parts();
     push_note(&mut entries, Entry::Fetched(FetchNote::Bytes(bytes)));

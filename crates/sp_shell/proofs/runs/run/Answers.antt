@@ -1,5 +1,5 @@
 use Rattle.std.proofs.Common.{◌∙◌, sym, ap}
-use Rattle.sp_engine.specs.Formats.{format_of}
+use Rattle.sp_meaning.specs.Formats.{format_of}
 use Rattle.sp_shell.proofs.RunLemmas.{file_ended, other_ended}
 use Rattle.sp_shell.proofs.runs.run.Goals as goal
 

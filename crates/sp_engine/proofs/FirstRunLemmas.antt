@@ -3,7 +3,8 @@ use Rattle.std.specs.Prelude.{ℤ, ◌≤ℤ◌, ◌<ℤ◌, ◌^◌, ◌%◌, �
 use Rattle.std.specs.List.{AllByRecursion}
 use Rattle.std.specs.Ordering.{int_eq}
 use Rattle.std.proofs.Common.{◌≡◌, ◌≢◌, ◌⊎◌, inl, inr, ℕ, zero, suc, cond, refl, ◌+◌, ◌<◌, ◌≤◌, List, [], ◌∷◌, ◌++◌, length, get_or, take, drop, Option, None, Some, sym, ap, ap₂, ◌∙◌, subst, arith, true≢false}
-use Rattle.std.proofs.lemmas.List.{length-map, get_or-map}
+use Rattle.std.proofs.Math.Seq.{drop-length, take-length}
+use Rattle.std.proofs.lemmas.List.{length-map, get_or-drop, get_or-map, take-append-drop}
 use Rattle.std.proofs.lemmas.Bool.Decides.{Decides-int_eq, nat_tests}
 use Rattle.std.proofs.lemmas.List.Elements.{recursion_from_All}
 use Rattle.sp_model.specs.declared.gaps.Gaps.{Gaps}
@@ -81,11 +82,6 @@ points_append : (xs ys : List Found) → points_of (xs ++ ys) ≡ points_of xs +
 points_append [] ys = refl
 points_append (x ∷ xs) ys = ap (λ (l : List (List ℤ)). x.point ∷ l) (points_append xs ys)
 
-take_drop : {X : Type 0} (n : ℕ) (xs : List X) → take n xs ++ drop n xs ≡ xs
-take_drop zero xs = refl
-take_drop (suc n) [] = refl
-take_drop (suc n) (x ∷ xs) = ap (λ l. x ∷ l) (take_drop n xs)
-
 at_take : {X : Type 0} (n k : ℕ) (xs : List X) (d : X) → k < length (take n xs) → get_or (take n xs) k d ≡ get_or xs k d
 at_take zero k xs d h = absurd (omega arith)
 at_take (suc n) k [] d h = absurd (omega arith)
@@ -96,11 +92,6 @@ take_short : {X : Type 0} (n : ℕ) (xs : List X) → length (take n xs) ≤ len
 take_short zero xs = omega arith
 take_short (suc n) [] = omega arith
 take_short (suc n) (x ∷ xs) = let h = take_short n xs in omega (arith, h)
-
-at_drop : {X : Type 0} (n k : ℕ) (xs : List X) (d : X) → get_or (drop n xs) k d ≡ get_or xs (n + k) d
-at_drop zero k xs d = let e : k ≡ 0 + k = omega arith in ap (λ (i : ℕ). get_or xs i d) e
-at_drop (suc n) k [] d = refl
-at_drop (suc n) k (x ∷ xs) d = let e : suc (n + k) ≡ suc n + k = omega arith in at_drop n k xs d ∙ ap (λ (i : ℕ). get_or (x ∷ xs) i d) e
 
 drop_inside : {X : Type 0} (n k : ℕ) (xs : List X) → k < length (drop n xs) → n + k < length xs
 drop_inside zero k xs h = omega (arith, h)
@@ -149,25 +140,17 @@ module _ (m : ModelParts) (settings : Settings) (s : SearchOf) (search : IsSearc
   phases_at n falls proved wanted = record {
     improved = points_of (take n s.found);
     collected = points_of (drop n s.found);
-    order = ap points_of (sym (take_drop n s.found)) ∙ points_append (take n s.found) (drop n s.found);
+    order = ap points_of (sym (take-append-drop n s.found)) ∙ points_append (take n s.found) (drop n s.found);
     better = record { falls = falling_points n falls; below = none_before (points_of (take n s.found)) };
     proved = proved;
     wanted = wanted;
   }
 
-  take_all : {X : Type 0} (xs : List X) → take (length xs) xs ≡ xs
-  take_all [] = refl
-  take_all (x ∷ xs) = ap (λ l. x ∷ l) (take_all xs)
-
-  drop_all : {X : Type 0} (xs : List X) → drop (length xs) xs ≡ []
-  drop_all [] = refl
-  drop_all (x ∷ xs) = drop_all xs
-
   -- while phase one goes on
   early_phases : s.proved ≡ false → ArePhases run (points_of s.found)
   early_phases e =
-      let all = take_all s.found in
-      let none : points_of (drop (length s.found) s.found) ≡ [] = ap points_of (drop_all s.found) in
+      let all = take-length s.found in
+      let none : points_of (drop (length s.found) s.found) ≡ [] = ap points_of (drop-length s.found) in
       phases_at (length s.found) (subst (AllPairs (λ f g. g.value <ℤ f.value)) (sym all) (search.falling e)) (inl none)
       (subst (All (IsWanted run)) (sym none) (λ k d lt. absurd (omega (arith, lt))))
 
@@ -206,7 +189,7 @@ module _ (m : ModelParts) (settings : Settings) (s : SearchOf) (search : IsSearc
 
       wanted : (k : ℕ) → k < length (drop n s.found) → IsWanted run (at (drop n s.found) k).point
       wanted k lt =
-          let here = at_drop n k s.found no_found in
+          let here = get_or-drop n s.found k no_found in
           let value_is : (at (drop n s.found) k).value ≡ objective m (at (drop n s.found) k).point =
           ap (λ (f : Found). f.value) here ∙ sym (are.value (n + k) (drop_inside n k s.found lt)) ∙ ap (λ (f : Found). objective m f.point) (sym here) in
           record {

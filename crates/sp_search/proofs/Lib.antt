@@ -4,3 +4,4 @@ pub mod StepLemmas
 pub mod MeasureLemmas
 pub mod RunLemmas
 pub mod StartLemmas
+pub mod StayLemmas

@@ -2,7 +2,10 @@
 use Rattle.std.specs.Prelude.{◌≡◌, ℕ, ◌-◌, ◌<◌, ◌≤◌, ◌⊎◌, true, false, AllPairs, None, Some, List, ◌++◌, length, slice_index_or, ℤ, ◌≤ℤ◌, ◌<ℤ◌}
 use Rattle.sp_model.specs.Models.{IsLeast, IsOptimum}
 use Rattle.sp_list.specs.declared.found.Found.{Found}
+use Rattle.sp_tree.specs.declared.nodes.Node.{Node}
+use Rattle.sp_tree.specs.declared.nodes.Kind.TheVariants.{Open}
 use Rattle.sp_tree.specs.Laws.{Extends}
+use Rattle.sp_tree.specs.Trees.{node_at}
 use Rattle.sp_cover.specs.Cover.{IsOpenAt, no_found}
 use Rattle.sp_search.specs.States.{StateOf, with_search}
 use Rattle.sp_search.specs.Steps.{IsFull}
@@ -49,3 +52,12 @@ pub record IsRun (old new : StateOf) (limit : ℕ) : Type 0 where
   pub extends : Extends old.search.tree new.search.tree
   pub size : (length new.search.tree.nodes ≤ limit) ⊎ (length new.search.tree.nodes ≤ length old.search.tree.nodes)
   pub found : IsFoundLater old.search.found new.search.found
+
+-- a node that isn't open stays as it is, and an open one keeps its mark
+abbrev pub IsTouched : Node → Node → Type 0
+IsTouched old new = (new ≡ old) ⊎ ((old.kind ≡ Open) × (new.mark ≡ old.mark))
+
+-- each node is still there, and all but the open ones are what they were
+pub record KeepsShut (old new : List Node) : Type 0 where
+  pub known : length old ≤ length new
+  pub each : (i : ℕ) → i < length old → IsTouched (node_at old i) (node_at new i)

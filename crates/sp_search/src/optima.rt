@@ -6,7 +6,7 @@ ghost use Rattle.sp_model.specs.Models.{root_of};
 ghost use Rattle.sp_filter.specs.Held.{FilterList};
 ghost use Rattle.sp_cover.specs.Cover.{IsShut};
 ghost use Rattle.sp_search.specs.States.{IsCovered, IsState};
-ghost use Rattle.sp_search.specs.Runs.{Ends, IsRun};
+ghost use Rattle.sp_search.specs.Runs.{Ends, IsRun, KeepsShut};
 ghost use Rattle.sp_search.specs.declared.optima.OptEnd.TheVariants as OptEnd;
 
 use crate::agenda::Agenda;
@@ -48,6 +48,7 @@ pub fn optimize(state: &mut State, node_limit: u32) -> Result<OptEnd, NoMemory>
 
     // What it leaves, after an error too.
     ensures run { IsRun state.old state.new node_limit }
+    ensures kept { KeepsShut state.old.search.tree.nodes state.new.search.tree.nodes }
     ensures covered { (fs : FilterList) → IsCovered fs state.old → IsCovered fs state.new }
     ensures state { IsState state.new }
 {

@@ -6,6 +6,7 @@ use Rattle.sp_search.specs.declared.goals.Stepped.TheVariants.{Full}
 use Rattle.sp_search.specs.declared.optima.OptEnd.TheVariants.{NodeLimit}
 use Rattle.sp_search.proofs.MeasureLemmas.{Counts}
 use Rattle.sp_search.proofs.RunLemmas.{full-of, full-stuck, model-stays, not-limit, phase-open, run-goes-on, step-falls, stuck-small}
+use Rattle.sp_search.proofs.StayLemmas.{same-nodes, step-goes-on}
 use Rattle.sp_search.proofs.optima.optimize.Goals as goal
 
 pub returns-then-proved-clause-ends : goal.returns-then-proved-clause-ends
@@ -42,6 +43,7 @@ loop-node-preserved c =
     record {
       state = c.step.ensures.state;
       run = run-goes-on c.extensions_last.ensures.joined c.args.state.now s new c.in-Some.node c.args.node_limit c.in_ok-stepped.stepped c.loop-node.invariant.state c.loop-node.invariant.run c.step.ensures.rest c.step.ensures.extends c.in_ok-stepped.ensures.steps;
+      kept = step-goes-on c.args.state.now.search.tree.nodes s.model s.search new.search Improve c.in-Some.node c.args.node_limit c.in_ok-stepped.stepped c.loop-node.invariant.kept leaf c.in_ok-stepped.ensures.steps;
       covered = λ fs h. c.step.ensures.covered fs tt (c.loop-node.invariant.covered fs h);
       phase = phase-open new.search.proved s.search.proved new.search.tree.nodes c.step.ensures.phase (c.loop-node.invariant.phase c.in-Some.node leaf);
     }

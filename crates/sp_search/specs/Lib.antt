@@ -1,5 +1,6 @@
 pub mod States
 pub mod Steps
 pub mod InnerSteps
+pub mod InnerCursors
 pub mod Runs
 pub mod Measures

@@ -14,3 +14,4 @@ pub mod ListLemmas
 pub mod FilteredLemmas
 pub mod NarrowLemmas
 pub mod SortLemmas
+pub mod ChangeLemmas

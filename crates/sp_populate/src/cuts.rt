@@ -8,6 +8,9 @@ use sp_cover::covered_searches_find_all;
 use sp_model::{Gaps, cut, cut_is_between, feasible_is_within, objective_is_small};
 use sp_search::State;
 
+/// The cut where nothing was found: no cut is greater.
+const CEILING: i128 = 1_000_000_000_000_000_000_000_000_000_000_000_000;
+
 /// The least value found, none where nothing was found.
 pub fn best_value(state: &State) -> Option<i128>
     ensures { result ≡ state.now.search.best }
@@ -32,7 +35,7 @@ pub fn present_cut(state: &State, gaps: &Gaps) -> i128
     objective_is_small();
     cut_is_between();
     match best_value(state) {
-        None => 1_000_000_000_000_000_000_000_000_000_000_000_000,
+        None => CEILING,
         Some(best) => cut(best, gaps, state.model().parts().scale),
     }
 }

@@ -11,5 +11,7 @@ mod populating;
 
 pub use cuts::present_cut;
 pub use listing::{ListRefusal, list};
-pub use populate_laws::{lists_are_filtered, lists_without_filters};
+pub use populate_laws::{
+    changed_filters_keep_the_cover, lists_are_filtered, lists_without_filters,
+};
 pub use populating::{PopEnd, populate};

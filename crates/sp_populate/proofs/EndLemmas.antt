@@ -48,7 +48,7 @@ complete-shut cut held nodes complete i leaf = none-open cut held nodes i comple
 
 -- ---- each answer
 
-goal-collects : (proved : Bool) (goal other : Goal) (s : StateOf) (limit : ℕ) → proved ≡ true → IsStuck s goal limit → IsStuck s (if proved then goal else other) limit
+pub goal-collects : (proved : Bool) (goal other : Goal) (s : StateOf) (limit : ℕ) → proved ≡ true → IsStuck s goal limit → IsStuck s (if proved then goal else other) limit
 goal-collects true goal other s limit e h = h
 goal-collects false goal other s limit e h = cc
 

@@ -13,7 +13,7 @@ use Rattle.sp_search.specs.Steps.{Steps}
 use Rattle.sp_search.specs.declared.goals.Goal.{Goal}
 use Rattle.sp_search.specs.declared.goals.Stepped.{Stepped}
 use Rattle.sp_search.specs.declared.goals.Stepped.TheVariants.{Split, Closed, Found as FoundPoint, Full}
-use Rattle.sp_populate.specs.Ends.{KeepsLicensed, KeepsNode}
+use Rattle.sp_populate.specs.Ends.{KeepsLicensed, KeepsNode, SparesLicensed}
 use Rattle.sp_populate.specs.InnerEnds.{IsTouched, KeepsShut}
 
 same-node : (old new : Node) → new ≡ old → IsTouched old new
@@ -101,4 +101,41 @@ kept-all spares marks cut held nodes opened new e touched = record {
       let long : length opened ≡ length nodes = ap length e ∙ length-map nodes (reopened cut held) in
       let is : node_at opened i ≡ reopened cut held (node_at nodes i) = ap (λ ns. node_at ns i) e ∙ get_or-map (reopened cut held) nodes i open_node open_node i-in in
       kept-node spares marks cut held (node_at nodes i) (node_at opened i) (node_at new i) is (touched.each i (omega (arith, i-in, long)));
+}
+
+-- ---- both phases
+
+touched-spared : (cut : ℤ) (held : ℕ → Bool) (n c : Node) → IsTouched n c → IsLicensed cut held n.kind → c ≡ n
+touched-spared cut held n c (inl e) h = e
+touched-spared cut held n c (inr f) h = absurd (open-unlicensed cut held n n refl f.0 h)
+
+pub shut-spares : (cut : ℤ) (held : ℕ → Bool) (old new : List Node) → KeepsShut old new → SparesLicensed cut held old new
+shut-spares cut held old new h = record { each = λ i i-in l. touched-spared cut held (node_at old i) (node_at new i) (h.each i i-in) l }
+
+pub kept-spares : (cut : ℤ) (held : ℕ → Bool) (old new : List Node) → KeepsLicensed cut held old new → SparesLicensed cut held old new
+kept-spares cut held old new h = record { each = λ i i-in l. (h.each i i-in).licensed l }
+
+open-unbounded : (n : Node) (bound : Bound) → n.kind ≡ Open → n.kind ≡ Bounded bound → ⊥
+open-unbounded n bound e f = let is : Open ≡ Bounded bound = sym e ∙ f in cc
+
+node-joined : (cut : ℤ) (held : ℕ → Bool) (n r c : Node) → IsTouched n r → KeepsNode cut held r c → KeepsNode cut held n c
+node-joined cut held n r c (inl e) k = rw e at k
+node-joined cut held n r c (inr f) k = record {
+  licensed = λ h. absurd (open-unlicensed cut held n n refl f.0 h);
+  marked = λ bound is not. absurd (open-unbounded n bound f.0 is);
+}
+
+-- what phase one left shut and phase two kept is kept
+pub kept-joined : (cut : ℤ) (held : ℕ → Bool) (old mid new : List Node) → KeepsShut old mid → KeepsLicensed cut held mid new → KeepsLicensed cut held old new
+kept-joined cut held old mid new h k = let known = h.known in record {
+  each = λ i i-in. node-joined cut held (node_at old i) (node_at mid i) (node_at new i) (h.each i i-in) (k.each i (omega (arith, i-in, known)));
+}
+
+spared-node : (cut : ℤ) (held : ℕ → Bool) (n r c : Node) → IsTouched n r → (IsLicensed cut held r.kind → c ≡ r) → IsLicensed cut held n.kind → c ≡ n
+spared-node cut held n r c (inl e) k h = k (rw e h) ∙ e
+spared-node cut held n r c (inr f) k h = absurd (open-unlicensed cut held n n refl f.0 h)
+
+pub spared-joined : (cut : ℤ) (held : ℕ → Bool) (old mid new : List Node) → KeepsShut old mid → SparesLicensed cut held mid new → SparesLicensed cut held old new
+spared-joined cut held old mid new h k = let known = h.known in record {
+  each = λ i i-in l. spared-node cut held (node_at old i) (node_at mid i) (node_at new i) (h.each i i-in) (k.each i (omega (arith, i-in, known))) l;
 }

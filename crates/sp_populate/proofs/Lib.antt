@@ -14,4 +14,7 @@ pub mod ListLemmas
 pub mod FilteredLemmas
 pub mod NarrowLemmas
 pub mod SortLemmas
+pub mod BestLemmas
+pub mod RoundLemmas
+pub mod FirstLemmas
 pub mod ChangeLemmas

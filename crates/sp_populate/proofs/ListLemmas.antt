@@ -156,7 +156,7 @@ pub points_mapped : (found : List Found) (serials : List ℕ) → points_of (map
 points_mapped found [] = refl
 points_mapped found (s ∷ serials) = ap (λ xs. (found_of found s).point ∷ xs) (points_mapped found serials)
 
-none-listed : (found : List Found) (serials : List ℕ) → found ≡ [] → All (IsSerial (length found)) serials → points_at found serials ≡ []
+pub none-listed : (found : List Found) (serials : List ℕ) → found ≡ [] → All (IsSerial (length found)) serials → points_at found serials ≡ []
 none-listed found [] e all = refl
 none-listed found (s ∷ serials) e all =
     let n = All-head (IsSerial (length found)) s serials all in

@@ -4,6 +4,7 @@ use Rattle.std.specs.Borrow.{Bor}
 use Rattle.std.specs.List.Sorted.{IsSortedBy}
 use Rattle.std.proofs.lemmas.List.{append-nil, get_or-map, length-map, map-append, take_more}
 use Rattle.std.proofs.lemmas.List.Elements.{All-append, All-head, All-map, All-tail, filter-append}
+use Rattle.std.proofs.lemmas.List.Filters.{length-filter_more}
 use Rattle.std.proofs.lemmas.List.Sorted.{All-permutation, IsPermutation-map}
 use Rattle.sp_list.specs.declared.found.Found.{Found}
 use Rattle.sp_list.specs.Lists.{found_cmp}
@@ -85,3 +86,27 @@ named-at found place r f h serial point is =
 
 pub point-at : (found : List Found) (place : ℕ) (f : Found) → place < length found → f ≡ get_or found place f → f ≡ get_or found place no_found
 point-at found place f h is = is ∙ get_or-default found place f no_found h
+
+-- ---- how many are kept
+
+one-kept : (b : Bool) → b ≡ true → cond {A = ℕ} b 1 0 ≡ 1
+one-kept true e = refl
+one-kept false e = cc
+
+none-kept : (b : Bool) → b ≡ false → cond {A = ℕ} b 1 0 ≡ 0
+none-kept true e = cc
+none-kept false e = refl
+
+pub counted-more : (found : List Found) (p : Found → Bool) (place count : ℕ) → place < length found → count ≡ length (filter p (take place found))
+    → p (get_or found place no_found) ≡ true → count + 1 ≡ length (filter p (take (place + 1) found))
+counted-more found p place count h is passes =
+    let more = length-filter_more p found place no_found h in
+    let one = one-kept (p (get_or found place no_found)) passes in
+    omega (arith, is, more, one)
+
+pub counted-same : (found : List Found) (p : Found → Bool) (place count : ℕ) → place < length found → count ≡ length (filter p (take place found))
+    → p (get_or found place no_found) ≡ false → count ≡ length (filter p (take (place + 1) found))
+counted-same found p place count h is fails =
+    let more = length-filter_more p found place no_found h in
+    let none = none-kept (p (get_or found place no_found)) fails in
+    omega (arith, is, more, none)

@@ -80,6 +80,10 @@ pub record KeepsNode (cut : ℤ) (held : ℕ → Bool) (old new : Node) : Type 0
 pub record KeepsLicensed (cut : ℤ) (held : ℕ → Bool) (old new : List Node) : Type 0 where
   pub each : (i : ℕ) → i < length old → KeepsNode cut held (node_at old i) (node_at new i)
 
+-- a licensed node stays as it was
+pub record SparesLicensed (cut : ℤ) (held : ℕ → Bool) (old new : List Node) : Type 0 where
+  pub each : (i : ℕ) → i < length old → IsLicensed cut held (node_at old i).kind → node_at new i ≡ node_at old i
+
 -- the model stays, what was in the tree lasts, the tree grows to the limit at most, and so do the found points
 pub record IsPopulated (old new : StateOf) (gaps : Gaps) (fs : FilterList) (limit : ℕ) : Type 0 where
   pub rest : new ≡ with_search old new.search

@@ -3,3 +3,5 @@ pub mod Ends
 pub mod InnerEnds
 pub mod Listings
 pub mod InnerLists
+pub mod Best
+pub mod InnerBest

@@ -1,6 +1,7 @@
 //! Phase two of a search: all points within the cut that pass the filters, and the list of them.
 #![tactic(auto)]
 
+mod best;
 mod cuts;
 mod leaves;
 mod listing;
@@ -9,6 +10,7 @@ mod populate_laws;
 mod populate_tests;
 mod populating;
 
+pub use best::{NBestEnd, nbest};
 pub use cuts::present_cut;
 pub use listing::{ListRefusal, list};
 pub use populate_laws::{

@@ -1,6 +1,6 @@
 //! The list of a complete tree, by the serials of its points.
 
-ghost use Rattle.std.specs.Prelude.{◌≡◌, ◌↔◌, ◌<◌, ◌^◌, All, length, map, Err, IfOk};
+ghost use Rattle.std.specs.Prelude.{◌≡◌, ◌↔◌, ◌<◌, ◌^◌, All, filter, length, map, Err, IfOk};
 ghost use Rattle.sp_filter.specs.Filters.{IsNarrow, box_at};
 ghost use Rattle.sp_list.specs.Lists.{found_cmp};
 ghost use Rattle.sp_search.specs.States.{AreFit};
@@ -106,6 +106,29 @@ fn found_in<'a>(state: &'a State, filters: &Filters) -> &'a [Found]
     narrow_filters_stay_narrow();
     let _size = state.tree().size();
     state.found()
+}
+
+/// How many of the found points are to be listed.
+fn count_listed(found: &[Found], cut: &i128, filters: &Filters) -> usize
+    requires few { length found.now < 2 ^ 32 }
+    requires narrow { All (λ f. All (λ h. IsNarrow h.filter (box_at f.point)) filters.now.held) found.now }
+    ensures { result ≡ length (filter (is_listed cut.now filters.now) found.now) }
+{
+    let mut count: usize = 0;
+    for place in 0..found.len() {
+        if is_listed(&found[place], cut, filters) {
+            count += 1;
+        }
+    }
+    count
+}
+
+/// How many of the state's found points pass the filters and aren't above the cut.
+pub fn count_within(state: &State, cut: &i128, filters: &Filters) -> usize
+    requires { AreFit state.now.model filters.now }
+    ensures { result ≡ length (filter (is_listed cut.now filters.now) state.now.search.found) }
+{
+    count_listed(found_in(state, filters), cut, filters)
 }
 
 /// The serials of the state's found points that pass the filters and aren't above the cut, in the list's order.

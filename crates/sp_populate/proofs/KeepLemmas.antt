@@ -9,12 +9,12 @@ use Rattle.sp_tree.specs.declared.nodes.Kind.TheVariants.{Split as SplitKind, Op
 use Rattle.sp_tree.specs.Trees.{IsLicensed, node_at, open_node, reopened, with_kind_of}
 use Rattle.sp_cover.specs.Cover.{IsOpenAt, SearchOf}
 use Rattle.sp_cover.specs.Moves.{closed_as, found_as, settled}
+use Rattle.sp_search.specs.Runs.{IsTouched, KeepsShut}
 use Rattle.sp_search.specs.Steps.{Steps}
 use Rattle.sp_search.specs.declared.goals.Goal.{Goal}
 use Rattle.sp_search.specs.declared.goals.Stepped.{Stepped}
 use Rattle.sp_search.specs.declared.goals.Stepped.TheVariants.{Split, Closed, Found as FoundPoint, Full}
 use Rattle.sp_populate.specs.Ends.{KeepsLicensed, KeepsNode, SparesLicensed}
-use Rattle.sp_populate.specs.InnerEnds.{IsTouched, KeepsShut}
 
 same-node : (old new : Node) → new ≡ old → IsTouched old new
 same-node old new e = inl e

@@ -3,7 +3,6 @@ use Rattle.std.specs.Prelude.{◌≡◌, ℕ, ◌+◌, ◌<◌, ◌≤◌, ◌^�
 use Rattle.sp_list.specs.declared.found.Found.{Found}
 use Rattle.sp_filter.specs.Held.{FilterList}
 use Rattle.sp_tree.specs.Laws.{Extends}
-use Rattle.sp_tree.specs.Trees.{node_at}
 use Rattle.sp_tree.specs.declared.nodes.Node.{Node}
 use Rattle.sp_tree.specs.declared.nodes.Kind.{Kind}
 use Rattle.sp_tree.specs.declared.nodes.Kind.TheVariants.{Split, Open, Dead, Bounded, Screened, Point}
@@ -65,11 +64,3 @@ pub record IsLater (old new : StateOf) (cut : ℤ) (fs : FilterList) (limit : �
   pub more : List Found
   pub grows : new.search.found ≡ old.search.found ++ more
   pub wanted : All (IsWithinBoth cut fs) more
-
--- a node that isn't open stays as it is, and an open one keeps its mark
-abbrev pub IsTouched : Node → Node → Type 0
-IsTouched old new = (new ≡ old) ⊎ ((old.kind ≡ Open) × (new.mark ≡ old.mark))
-
-pub record KeepsShut (old new : List Node) : Type 0 where
-  pub known : length old ≤ length new
-  pub each : (i : ℕ) → i < length old → IsTouched (node_at old i) (node_at new i)

@@ -4,12 +4,13 @@ ghost use Rattle.std.specs.Prelude.{◌≡◌, ◌≢◌, ◌≤◌, ◌≤ℤ�
 ghost use Rattle.sp_model.specs.Boxes.{point_count, room};
 ghost use Rattle.sp_model.specs.Models.{root_of};
 ghost use Rattle.sp_tree.specs.Trees.{is_held};
+ghost use Rattle.sp_search.specs.Runs.{KeepsShut};
 ghost use Rattle.sp_search.specs.States.{AreFit, IsCovered, IsState};
 ghost use Rattle.sp_populate.specs.Best.{NBestEnds};
 ghost use Rattle.sp_populate.specs.Complete.{CanRun, cut_under};
 ghost use Rattle.sp_populate.specs.Ends.{IsPopulated, SparesLicensed};
 ghost use Rattle.sp_populate.specs.InnerBest.{IsCutFor, IsFirstOf, IsLowered, RoundsEnd};
-ghost use Rattle.sp_populate.specs.InnerEnds.{AreSettled, IsLater, KeepsShut};
+ghost use Rattle.sp_populate.specs.InnerEnds.{AreSettled, IsLater};
 ghost use Rattle.sp_populate.specs.declared.best.NBestEnd.TheVariants as NBestEnd;
 
 use crate::cuts::{best_value, present_cut};
@@ -198,6 +199,8 @@ pub fn nbest(
 
     // What it leaves, after an error too.
     ensures run { IsPopulated state.old state.new gaps.now filters.now node_limit }
+    ensures spared { SparesLicensed (cut_under gaps.now state.new) (is_held filters.now)
+        state.old.search.tree.nodes state.new.search.tree.nodes }
     ensures covered { IsCovered filters.now state.new }
     ensures state { IsState state.new }
 {

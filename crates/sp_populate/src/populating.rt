@@ -4,10 +4,11 @@ ghost use Rattle.std.specs.Prelude.{◌≡◌, ◌≢◌, ◌↔◌, ◌≤◌, 
 ghost use Rattle.sp_model.specs.Boxes.{point_count, room};
 ghost use Rattle.sp_model.specs.Models.{root_of};
 ghost use Rattle.sp_tree.specs.Trees.{is_held};
+ghost use Rattle.sp_search.specs.Runs.{KeepsShut};
 ghost use Rattle.sp_search.specs.States.{AreFit, IsCovered, IsState};
 ghost use Rattle.sp_populate.specs.Complete.{CanRun, IsCompleteFor, cut_under};
-ghost use Rattle.sp_populate.specs.Ends.{IsPopulateFull, IsPopulated, KeepsLicensed, PopEnds};
-ghost use Rattle.sp_populate.specs.InnerEnds.{AreSettled, CollectEnds, IsLater, KeepsShut, found_by};
+ghost use Rattle.sp_populate.specs.Ends.{IsPopulateFull, IsPopulated, KeepsLicensed, PopEnds, SparesLicensed};
+ghost use Rattle.sp_populate.specs.InnerEnds.{AreSettled, CollectEnds, IsLater, found_by};
 ghost use Rattle.sp_populate.specs.declared.populating.PopEnd.TheVariants as PopEnd;
 
 use crate::cuts::present_cut;
@@ -132,8 +133,10 @@ pub fn populate(
 
     // What it leaves, after an error too.
     ensures run { IsPopulated state.old state.new gaps.now filters.now node_limit }
-    ensures kept { state.old.search.proved ≡ true → OnOk result
+    ensures kept { state.new.search.proved ≡ true → OnOk result
         (KeepsLicensed (cut_under gaps.now state.new) (is_held filters.now) state.old.search.tree.nodes state.new.search.tree.nodes) }
+    ensures spared { SparesLicensed (cut_under gaps.now state.new) (is_held filters.now)
+        state.old.search.tree.nodes state.new.search.tree.nodes }
     ensures covered { IsCovered filters.now state.new }
     ensures state { IsState state.new }
 {

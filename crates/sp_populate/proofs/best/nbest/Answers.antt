@@ -1,12 +1,14 @@
 use Rattle.std.proofs.Common.{◌≡◌, sym, ap, refl, ◌∙◌, IfOk, true}
 use Rattle.sp_list.specs.Lists.{list_of}
+use Rattle.sp_tree.specs.Trees.{is_held}
 use Rattle.sp_populate.specs.Best.{NBestEnds}
 use Rattle.sp_populate.specs.Complete.{cut_under}
 use Rattle.sp_populate.specs.Ends.{goal_of}
 use Rattle.sp_populate.specs.declared.best.NBestEnd.TheVariants.{NodeLimit}
 use Rattle.sp_populate.proofs.CollectLemmas.{later-none}
 use Rattle.sp_populate.proofs.FirstLemmas.{IsKnown, best-is, best-tells, map-best}
-use Rattle.sp_populate.proofs.PhaseLemmas.{IsImproved, populated}
+use Rattle.sp_populate.proofs.KeepLemmas.{shut-spares, spared-joined}
+use Rattle.sp_populate.proofs.PhaseLemmas.{IsImproved, cut-stays, populated}
 use Rattle.sp_populate.proofs.RoomLemmas.{Counts, stuck-small}
 use Rattle.sp_populate.proofs.best.nbest.Goals as goal
 
@@ -66,3 +68,19 @@ returns-clause-roomy c = λ big e.
 pub returns-clause-run : goal.returns-clause-run
 returns-clause-run c =
     populated c.extensions_last.ensures.joined c.args.state.now c.optimize.new.state c.collect_best.new.state c.args.gaps.now c.args.filters.now c.args.node_limit (improved c) c.collect_best.ensures.run
+
+-- ---- licensed leaves
+
+pub returns-in_err-optimize-clause-spared : goal.returns-in_err-optimize-clause-spared
+returns-in_err-optimize-clause-spared c = shut-spares _ (is_held c.args.filters.now) c.args.state.now.search.tree.nodes c.optimize.new.state.search.tree.nodes c.optimize.ensures.kept
+
+pub returns-then-not-proved-clause-spared : goal.returns-then-not-proved-clause-spared
+returns-then-not-proved-clause-spared c = shut-spares _ (is_held c.args.filters.now) c.args.state.now.search.tree.nodes c.optimize.new.state.search.tree.nodes c.optimize.ensures.kept
+
+pub returns-clause-spared : goal.returns-clause-spared
+returns-clause-spared c =
+    let mid = c.optimize.new.state in
+    let new = c.collect_best.new.state in
+    let cut : cut_under c.args.gaps.now new ≡ cut_under c.args.gaps.now mid = cut-stays mid new c.args.gaps.now c.collect_best.ensures.run.rest c.collect_best.ensures.run.best in
+    rw cut (spared-joined (cut_under c.args.gaps.now mid) (is_held c.args.filters.now) c.args.state.now.search.tree.nodes mid.search.tree.nodes new.search.tree.nodes
+    c.optimize.ensures.kept c.collect_best.ensures.kept)

@@ -3,12 +3,14 @@ use Rattle.std.proofs.lemmas.Bool.{false≢true}
 use Rattle.sp_model.specs.Boxes.{point_count, room}
 use Rattle.sp_model.specs.Models.{root_of}
 use Rattle.sp_search.specs.Runs.{IsStuck}
+use Rattle.sp_tree.specs.Trees.{is_held}
 use Rattle.sp_populate.specs.Complete.{cut_under}
-use Rattle.sp_populate.specs.Ends.{PopEnds, found_before, goal_of}
+use Rattle.sp_populate.specs.Ends.{KeepsLicensed, PopEnds, found_before, goal_of}
 use Rattle.sp_populate.specs.InnerEnds.{CollectEnds}
 use Rattle.sp_populate.specs.declared.populating.PopEnd.TheVariants.{NodeLimit, PopulateLimit}
 use Rattle.sp_populate.proofs.CollectLemmas.{later-none}
 use Rattle.sp_populate.proofs.EndLemmas.{done-exactly, full-exactly, full-small, map-ok, never-full, ok-is, on-ok, stopped, tells}
+use Rattle.sp_populate.proofs.KeepLemmas.{kept-joined, kept-spares, shut-spares}
 use Rattle.sp_populate.proofs.PhaseLemmas.{IsImproved, cut-stays, phase-two, populated}
 use Rattle.sp_populate.proofs.RoomLemmas.{Counts, stuck-small}
 use Rattle.sp_populate.proofs.populating.populate.Goals as goal
@@ -114,13 +116,29 @@ pub returns-clause-run : goal.returns-clause-run
 returns-clause-run c =
     populated c.extensions_last.ensures.joined c.args.state.now c.optimize.new.state c.collect.new.state c.args.gaps.now c.args.filters.now c.args.node_limit (improved c) c.collect.ensures.run
 
-pub returns-then-not-proved-clause-kept : goal.returns-then-not-proved-clause-kept
-returns-then-not-proved-clause-kept c = λ e. absurd (false≢true (sym (is-open c) ∙ ap (λ s. s.search.proved) (c.optimize.ensures.proved e) ∙ e))
+-- ---- licensed leaves
 
-pub returns-clause-kept : goal.returns-clause-kept
-returns-clause-kept c = λ e.
+pub returns-in_err-optimize-clause-spared : goal.returns-in_err-optimize-clause-spared
+returns-in_err-optimize-clause-spared c = shut-spares _ (is_held c.args.filters.now) c.args.state.now.search.tree.nodes c.optimize.new.state.search.tree.nodes c.optimize.ensures.kept
+
+pub returns-then-not-proved-clause-kept : goal.returns-then-not-proved-clause-kept
+returns-then-not-proved-clause-kept c = λ e. absurd (false≢true (sym (is-open c) ∙ e))
+
+pub returns-then-not-proved-clause-spared : goal.returns-then-not-proved-clause-spared
+returns-then-not-proved-clause-spared c = shut-spares _ (is_held c.args.filters.now) c.args.state.now.search.tree.nodes c.optimize.new.state.search.tree.nodes c.optimize.ensures.kept
+
+keeps : (c : goal.After-collect)
+    → KeepsLicensed (cut_under c.args.gaps.now c.collect.new.state) (is_held c.args.filters.now) c.args.state.now.search.tree.nodes c.collect.new.state.search.tree.nodes
+keeps c =
     let mid = c.optimize.new.state in
     let new = c.collect.new.state in
-    let same : mid ≡ c.args.state.now = c.optimize.ensures.proved e in
     let cut : cut_under c.args.gaps.now new ≡ cut_under c.args.gaps.now mid = cut-stays mid new c.args.gaps.now c.collect.ensures.run.rest c.collect.ensures.run.best in
-    on-ok c.collect.result (rw (cut, ← ap (λ s. s.search.tree.nodes) same) c.collect.ensures.kept)
+    rw cut (kept-joined (cut_under c.args.gaps.now mid) (is_held c.args.filters.now) c.args.state.now.search.tree.nodes mid.search.tree.nodes new.search.tree.nodes
+    c.optimize.ensures.kept c.collect.ensures.kept)
+
+pub returns-clause-kept : goal.returns-clause-kept
+returns-clause-kept c = λ e. on-ok c.collect.result (keeps c)
+
+pub returns-clause-spared : goal.returns-clause-spared
+returns-clause-spared c =
+    kept-spares (cut_under c.args.gaps.now c.collect.new.state) (is_held c.args.filters.now) c.args.state.now.search.tree.nodes c.collect.new.state.search.tree.nodes (keeps c)

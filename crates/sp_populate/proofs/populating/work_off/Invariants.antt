@@ -1,8 +1,9 @@
 use Rattle.std.proofs.Common.{◌≡◌, ◌+◌, length}
 use Rattle.sp_tree.specs.Trees.{is_held}
 use Rattle.sp_search.specs.Measures.{open_room}
+use Rattle.sp_search.specs.Runs.{KeepsShut}
 use Rattle.sp_search.specs.States.{IsCovered, IsState}
-use Rattle.sp_populate.specs.InnerEnds.{AreSettled, IsLater, KeepsShut}
+use Rattle.sp_populate.specs.InnerEnds.{AreSettled, IsLater}
 use Rattle.sp_populate.proofs.populating.work_off.Given as goal
 
 abbrev pub invariant-loop-node : goal.invariant-loop-node

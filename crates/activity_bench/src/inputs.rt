@@ -5,18 +5,31 @@ use std::str::SplitWhitespace;
 /// What a line is about.
 #[derive(Clone, Copy, PartialEq, Eq, Debug)]
 pub enum Kind {
+    /// A variable's bounds.
     Var,
+    /// A row.
     Row,
+    /// An indicator.
     Gate,
+    /// A special ordered set.
     Set,
+    /// What a semi-integer variable may be beside 0.
     Core,
+    /// A variable gets another range.
     Change,
+    /// The first reason, the counts and the sums.
     State,
+    /// A place where a split closes a side.
     Tight,
+    /// The first reason of the box with one range turned round.
     Crossed,
+    /// Whether a reason holds.
     Holds,
+    /// Rounds of changes.
     Rounds,
+    /// Rounds in which all is made.
     Make,
+    /// Nothing that is known.
     Other,
 }
 

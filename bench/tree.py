@@ -69,13 +69,13 @@ def main():
                         f"| {least['close']:.0f} | {least['box_of']:,.0f} | {least['reopen']:.1f} |")
     text = f"""## The tree
 
-Written by `bench/tree.py`, on {machine()}. Processor nanoseconds a call, the least of {RUNS} runs, and memory: the process's peak less that with a tree of one node; MB are millions of bytes. In the chain each split but the last leaves a leaf on its left, so the last node is as deep as it can be; in the full tree all leaves lie at two depths. `split` stands without and with the making of the box that says whether it may be called. `close` stands with the `open_leaf` that found its node, `box_of` is asked for the last node and makes a box of all variables, `reopen` is one pass in which every leaf is opened, told for each node.
+Written by `bench/tree.py`, on {machine()}. Processor nanoseconds a call, the least of {RUNS} runs, and memory: the process's peak less that with a tree of one node; MB are millions of bytes. In the chain each split but the last leaves a leaf on its left, so the last node is as deep as it can be; in the full tree all leaves lie at two depths. `split` stands without and with the making of the box that says whether it may be called; in the full tree the test that this box has points, which reads all its ranges, is part of both. `close` stands with the `open_leaf` that found its node, `box_of` is asked for the last node and makes a box of all variables, `reopen` is one pass in which every leaf is opened, told for each node.
 
 | Tree | Variables | Nodes | Bytes a node | MB in all | `split` | with its box | `close` | `box_of` | `reopen` a node |
 |---|---|---|---|---|---|---|---|---|---|
 """ + "\n".join(rows) + """
 
-A node takes at most 96 bytes, which the check computes, and a split 16 more for its two nodes; the lists of both grow by doubling. `open_leaf` reads one number: closing and splitting move it on, over each node once between two reopenings. `box_of` goes up to the root and back, and copies the root's box.
+A node takes at most 96 bytes, which the check computes, and a split 16 more for its two nodes; the lists of both grow by doubling. `open_leaf` reads one number: closing and splitting move it on, over each node once between two reopenings, so that `close` with it costs no more in ten times the nodes. `box_of` goes up to the root and back, and copies the root's box.
 """
     if "--loaded" in sys.argv:
         text += "\nThe machine was loaded with other work; processor time is counted for that reason.\n"

@@ -8,16 +8,18 @@ use Rattle.sp_filter.specs.Held.{FilterList}
 use Rattle.sp_tree.specs.declared.nodes.Node.{Node}
 use Rattle.sp_tree.specs.declared.nodes.Kind.{Kind}
 use Rattle.sp_tree.specs.declared.nodes.Kind.TheVariants.{Split, Open, Dead, Bounded, Screened, Point}
-use Rattle.sp_tree.specs.Trees.{IsLicensed, node_at}
-use Rattle.sp_search.specs.States.{StateOf, with_search}
-use Rattle.sp_search.specs.Runs.{IsStuck}
+use Rattle.sp_tree.specs.Trees.{IsLicensed, is_held, node_at}
+use Rattle.sp_search.specs.States.{AreFit, IsCovered, StateOf, with_search}
+use Rattle.sp_search.specs.Runs.{IsStuck, KeepsShut}
+use Rattle.sp_tree.specs.Laws.{Extends}
 use Rattle.sp_populate.specs.Ends.{IsWithinBoth, KeepsLicensed, SparesLicensed, collecting}
-use Rattle.sp_populate.specs.InnerBest.{IsCutFor, IsLowered}
+use Rattle.sp_populate.specs.InnerBest.{IsCutFor, IsGathered, IsLowered}
 use Rattle.sp_populate.specs.InnerEnds.{AreSettled, IsLater, IsSettledKind}
 use Rattle.sp_populate.specs.InnerLists.{is_listed}
 use Rattle.sp_populate.proofs.BestLemmas.{count-more}
 use Rattle.sp_populate.proofs.CollectLemmas.{Joined, size-joined}
-use Rattle.sp_populate.proofs.ReopenLemmas.{IsReopened}
+use Rattle.sp_populate.proofs.KeepLemmas.{Marks, Spares, kept-all}
+use Rattle.sp_populate.proofs.ReopenLemmas.{IsReopened, later-from}
 
 -- ---- cuts
 
@@ -147,3 +149,44 @@ spared-most cut most held old new lower h = record {
 
 pub spared-same : (cut : ℤ) (held : ℕ → Bool) (nodes : List Node) → SparesLicensed cut held nodes nodes
 spared-same cut held nodes = record { each = λ i i-in l. refl }
+
+pub spared-join : (cut : ℤ) (held : ℕ → Bool) (a b c : List Node) → length a ≤ length b → SparesLicensed cut held a b → SparesLicensed cut held b c → SparesLicensed cut held a c
+spared-join cut held a b c long h k = record {
+  each = λ i i-in l.
+      let one : node_at b i ≡ node_at a i = h.each i i-in l in
+      k.each i (omega (arith, i-in, long)) (rw one l) ∙ one;
+}
+
+-- ---- gathering
+
+pub gathered-one : Joined → Spares → Marks → (old r new : StateOf) (cut most : ℤ) (fs : FilterList) (limit : ℕ) → IsReopened old r cut fs → Extends old.search.tree r.search.tree
+    → (IsCovered fs old → IsCovered fs r) → cut ≤ℤ most → IsLater r new cut fs limit → KeepsShut r.search.tree.nodes new.search.tree.nodes → (IsCovered fs r → IsCovered fs new)
+    → IsGathered old new most fs limit
+gathered-one join spares marks old r new cut most fs limit e extends opened lower run touched covered = record {
+  run = later-most old new cut most fs limit lower (later-from join old r new cut fs limit e extends run);
+  kept = spared-most cut most (is_held fs) old.search.tree.nodes new.search.tree.nodes lower
+      (kept-all spares marks cut (is_held fs) old.search.tree.nodes r.search.tree.nodes new.search.tree.nodes (ap (λ s. s.search.tree.nodes) e) touched);
+  covered = λ h. covered (opened h);
+}
+
+pub gathered-join : Joined → (a b c : StateOf) (most : ℤ) (fs : FilterList) (limit : ℕ) → IsGathered a b most fs limit → IsGathered b c most fs limit → IsGathered a c most fs limit
+gathered-join join a b c most fs limit h k = record {
+  run = later-join join a b c most fs limit h.run k.run;
+  kept = spared-join most (is_held fs) a.search.tree.nodes b.search.tree.nodes c.search.tree.nodes h.run.extends.known h.kept k.kept;
+  covered = λ i. k.covered (h.covered i);
+}
+
+best-up : (best : Option ℤ) (low new : ℤ) → low ≤ℤ new → IfSome best (λ v. v ≤ℤ low) → IfSome best (λ v. v ≤ℤ new)
+best-up None low new lower h = tt
+best-up (Some v) low new lower h = up v low new h lower
+
+pub above-next : (old new : StateOf) (cut next most : ℤ) (fs : FilterList) (limit : ℕ) → IsGathered old new most fs limit → IfSome old.search.best (λ v. v ≤ℤ cut) → cut ≤ℤ next
+    → IfSome new.search.best (λ v. v ≤ℤ next)
+above-next old new cut next most fs limit g h lower = rw g.run.best (best-up old.search.best cut next lower h)
+
+pub fit-next : (old new : StateOf) (most : ℤ) (fs : FilterList) (limit : ℕ) → IsGathered old new most fs limit → AreFit old.model fs → AreFit new.model fs
+fit-next old new most fs limit g h = rw (ap (λ s. s.model) g.run.rest) h
+
+pub some-lower : (best : Option ℤ) (b most : ℤ) → Some b ≡ best → IfSome best (λ v. v ≤ℤ most) → b ≤ℤ most
+some-lower None b most e h = cc
+some-lower (Some v) b most e h = let same : b ≡ v = same_Some b v e in rw same h

@@ -4,10 +4,10 @@ use Rattle.sp_list.specs.declared.found.Found.{Found}
 use Rattle.sp_filter.specs.Held.{FilterList}
 use Rattle.sp_tree.specs.Trees.{is_held}
 use Rattle.sp_cover.specs.Cover.{IsShut}
-use Rattle.sp_search.specs.States.{StateOf}
+use Rattle.sp_search.specs.States.{IsCovered, StateOf}
 use Rattle.sp_search.specs.Runs.{IsStuck}
-use Rattle.sp_populate.specs.Ends.{collecting}
-use Rattle.sp_populate.specs.InnerEnds.{AreSettled}
+use Rattle.sp_populate.specs.Ends.{SparesLicensed, collecting}
+use Rattle.sp_populate.specs.InnerEnds.{AreSettled, IsLater}
 use Rattle.sp_populate.specs.InnerLists.{IsSorting, is_listed}
 use Rattle.sp_populate.specs.declared.best.NBestEnd.{NBestEnd}
 use Rattle.sp_populate.specs.declared.best.NBestEnd.TheVariants.{Done, NodeLimit}
@@ -22,6 +22,13 @@ pub record IsLowered (found : List Found) (best : Option ℤ) (fs : FilterList) 
 pub record IsCutFor (found : List Found) (cut most : ℤ) (fs : FilterList) (k : ℕ) : Type 0 where
   pub lower : cut ≤ℤ most
   pub many : (cut ≡ most) ⊎ (k ≤ length (filter (is_listed cut fs) found))
+
+-- what a run of collecting steps up to cuts that aren't above the most leaves: what such a run leaves, each leaf that is
+-- licensed for the most, and the cover
+pub record IsGathered (old new : StateOf) (most : ℤ) (fs : FilterList) (limit : ℕ) : Type 0 where
+  pub run : IsLater old new most fs limit
+  pub kept : SparesLicensed most (is_held fs) old.search.tree.nodes new.search.tree.nodes
+  pub covered : IsCovered fs old → IsCovered fs new
 
 -- these are the serials of the first k points to list up to the cut
 pub record IsFirstOf (found : List Found) (cut : ℤ) (fs : FilterList) (k : ℕ) (serials : List ℕ) : Type 0 where

@@ -9,7 +9,7 @@ ghost use Rattle.sp_search.specs.States.{AreFit, IsCovered, IsState};
 ghost use Rattle.sp_populate.specs.Best.{NBestEnds};
 ghost use Rattle.sp_populate.specs.Complete.{CanRun, cut_under};
 ghost use Rattle.sp_populate.specs.Ends.{IsPopulated, SparesLicensed};
-ghost use Rattle.sp_populate.specs.InnerBest.{IsCutFor, IsFirstOf, IsLowered, RoundsEnd};
+ghost use Rattle.sp_populate.specs.InnerBest.{IsCutFor, IsFirstOf, IsGathered, IsLowered, RoundsEnd};
 ghost use Rattle.sp_populate.specs.InnerEnds.{AreSettled, IsLater};
 ghost use Rattle.sp_populate.specs.declared.best.NBestEnd.TheVariants as NBestEnd;
 
@@ -21,7 +21,7 @@ use sp_filter::Filters;
 use sp_list::{Found, list_is_list_of};
 use sp_model::{Gaps, NoMemory, split_divides_count};
 use sp_search::{State, optimize};
-use sp_tree::{extensions_last, reopening_spares_licensed};
+use sp_tree::{Kind, NodeId, Tree, extensions_last, reopening_spares_licensed};
 use std::alloc::{AllocError, Global};
 
 /// How a run for the first points of the list ended.
@@ -32,6 +32,9 @@ pub enum NBestEnd {
     /// The node limit leaves no room for two more nodes, and an open leaf remains that nothing closes.
     NodeLimit,
 }
+
+/// So many times a cut rises at most: twice as far each time passes all values there are.
+const ROUNDS: u32 = 128;
 
 /// The value of the k-th of the serials, none where there are fewer.
 fn value_at(found: &[Found], serials: &[u32], k: u32) -> Option<i128> {
@@ -150,7 +153,139 @@ fn rounds(
     }
 }
 
+/// The least bound above the cut of a bounded leaf.
+fn next_bound(tree: &Tree, cut: &i128) -> Option<i128> {
+    let mut next = None;
+    for place in 0..tree.size() {
+        match &tree.node(NodeId::new(place)).kind {
+            Kind::Bounded(bound) if bound.least > *cut => {
+                next = match next {
+                    Some(least) if least <= bound.least => next,
+                    _ => Some(bound.least),
+                };
+            }
+            _ => {}
+        }
+    }
+    next
+}
+
+/// A cut that is about twice as far from the least value as this one, at least the next bound.
+fn proposed(state: &State, cut: &i128) -> i128 {
+    let best = best_value(state).unwrap_or(*cut);
+    let twice = cut.saturating_sub(best).saturating_add(*cut);
+    match next_bound(state.tree(), cut) {
+        None => i128::MAX,
+        Some(next) => next.max(twice),
+    }
+}
+
+/// The number that is proposed where it lies between the two, else the upper one.
+fn between(low: &i128, number: &i128, most: &i128) -> i128
+    requires { low.now ≤ℤ most.now }
+    ensures above { low.now ≤ℤ result }
+    ensures below { result ≤ℤ most.now }
+{
+    if *number < *low || *number > *most {
+        return *most;
+    }
+    *number
+}
+
+/// The least value found, the most where nothing was found.
+fn least_cut(state: &State, most: &i128) -> i128
+    requires { IfSome state.now.search.best (λ best. best ≤ℤ most.now) }
+    ensures above { IfSome state.now.search.best (λ best. best ≤ℤ result) }
+    ensures lower { result ≤ℤ most.now }
+{
+    match best_value(state) {
+        None => *most,
+        Some(best) => best,
+    }
+}
+
+/// Opens what the cut and the filters held no longer justify, and collects up to it until so many points were found. Answers
+/// whether no leaf is left.
+fn gather_to(
+    state: &mut State,
+    k: u32,
+    cut: &i128,
+    most: &i128,
+    filters: &Filters,
+    node_limit: u32,
+) -> Result<bool, NoMemory>
+    requires proved { state.old.search.proved ≡ true }
+    requires above { IfSome state.old.search.best (λ best. best ≤ℤ cut.now) }
+    requires lower { cut.now ≤ℤ most.now }
+    requires fit { AreFit state.old.model filters.now }
+    ensures run { IsGathered state.old state.new most.now filters.now node_limit }
+    ensures state { IsState state.new }
+{
+    extensions_last();
+    reopening_spares_licensed();
+    state.reopen(*cut, filters);
+    let end = work_off(state, cut, filters, node_limit, k)?;
+    Ok(end == PopEnd::Done)
+}
+
+/// Collects up to cuts that rise from this one to the most, until k points to list were found. What it finds lets the cut for
+/// the first k points fall at once.
+fn gather(
+    state: &mut State,
+    k: u32,
+    cut: &i128,
+    most: &i128,
+    filters: &Filters,
+    node_limit: u32,
+    left: u32,
+) -> Result<(), NoMemory>
+    requires proved { state.old.search.proved ≡ true }
+    requires above { IfSome state.old.search.best (λ best. best ≤ℤ cut.now) }
+    requires lower { cut.now ≤ℤ most.now }
+    requires fit { AreFit state.old.model filters.now }
+    ensures run { IsGathered state.old state.new most.now filters.now node_limit }
+    ensures state { IsState state.new }
+{
+    extensions_last();
+    let done = gather_to(state, k, cut, most, filters, node_limit)?;
+    if !done || left == 0 {
+        return Ok(());
+    }
+    if count_within(state, cut, filters) >= k as usize {
+        return Ok(());
+    }
+    let wish = proposed(state, cut);
+    let next = between(cut, &wish, most);
+    gather(state, k, &next, most, filters, node_limit, left - 1)
+}
+
 /// Opens what a cut for the first k points and the filters held no longer justify, and collects up to it.
+fn finish(
+    alloc: Global,
+    state: &mut State,
+    k: u32,
+    most: &i128,
+    filters: &Filters,
+    node_limit: u32,
+) -> Result<NBestEnd, NoMemory>
+    requires proved { state.old.search.proved ≡ true }
+    requires above { IfSome state.old.search.best (λ best. best ≤ℤ most.now) }
+    requires fit { AreFit state.old.model filters.now }
+    ensures ends { IfOk result (λ end. RoundsEnd state.new most.now filters.now k node_limit end) }
+    ensures run { IsLater state.old state.new most.now filters.now node_limit }
+    ensures kept { SparesLicensed most.now (is_held filters.now) state.old.search.tree.nodes state.new.search.tree.nodes }
+    ensures covered { IsCovered filters.now state.old → IsCovered filters.now state.new }
+    ensures state { IsState state.new }
+{
+    extensions_last();
+    reopening_spares_licensed();
+    let _phase = state.proved();
+    let cut = lowered(alloc, state, k, most, filters)?;
+    state.reopen(cut, filters);
+    rounds(alloc, state, k, k.max(1), &cut, filters, node_limit)
+}
+
+/// Finds the first k points up to the present cut: some first, up to cuts that rise, and then all up to the value of the k-th.
 fn collect_best(
     alloc: Global,
     state: &mut State,
@@ -170,17 +305,15 @@ fn collect_best(
     ensures state { IsState state.new }
 {
     extensions_last();
-    reopening_spares_licensed();
-    let _phase = state.proved();
     let most = present_cut(state, gaps);
-    let cut = lowered(alloc, state, k, &most, filters)?;
-    state.reopen(cut, filters);
-    rounds(alloc, state, k, k.max(1), &cut, filters, node_limit)
+    let least = least_cut(state, &most);
+    gather(state, k, &least, &most, filters, node_limit, ROUNDS)?;
+    finish(alloc, state, k, &most, filters, node_limit)
 }
 
 /// The serials of the first k points of the list, in its order, or of all where it is shorter. It ends phase one if that hasn't
-/// ended, opens what the cut that it takes and the filters no longer justify, and collects. The cut that it takes falls to the
-/// value of the k-th point found, so that points behind the first k are found only by the way. After an error the state is that
+/// ended, opens what the cuts that it takes and the filters no longer justify, and collects. Its cut rises from the optimum
+/// until k points were found, and then falls to the value of the k-th, so that points behind these are found only by the way. After an error the state is that
 /// of the last whole step.
 pub fn nbest(
     alloc: Global,

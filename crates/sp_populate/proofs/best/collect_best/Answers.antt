@@ -1,58 +1,30 @@
-use Rattle.std.proofs.Common.{◌≡◌, ap, ◌∙◌, rules, FitsSigned, to_z, of_z, to_z-of_z}
+use Rattle.std.proofs.Common.{◌≡◌, ◌∙◌, rules, FitsSigned, to_z, of_z, to_z-of_z}
 use Rattle.std.specs.Int.{w128}
 use Rattle.sp_tree.specs.Trees.{is_held}
 use Rattle.sp_populate.specs.Complete.{cut_under}
-use Rattle.sp_populate.specs.InnerBest.{IsLowered}
-use Rattle.sp_populate.specs.InnerEnds.{IsLater}
-use Rattle.sp_populate.proofs.KeepLemmas.{kept-all}
-use Rattle.sp_populate.proofs.ReopenLemmas.{IsReopened, later-from, reopened-all}
-use Rattle.sp_populate.proofs.RoundLemmas.{fits-reopened, later-most, same-cut, spared-most}
+use Rattle.sp_populate.proofs.RoundLemmas.{later-join, spared-join}
 use Rattle.sp_populate.proofs.best.collect_best.Goals as goal
 
-most-is : (c : goal.After-rounds) → to_z w128 (of_z w128 c.present_cut-most.result) ≡ cut_under c.args.gaps.now c.args.state.now
+most-is : (c : goal.After-finish) → to_z w128 (of_z w128 c.present_cut-most.result) ≡ cut_under c.args.gaps.now c.args.state.now
 most-is c =
     let g : FitsSigned w128 c.present_cut-most.result = search rules in
     to_z-of_z g ∙ c.present_cut-most.ensures.cut
 
-reopens : (c : goal.After-rounds) → IsReopened c.args.state.now c.reopen.new.self c.in_ok-cut.cut c.args.filters.now
-reopens c =
-    let f : FitsSigned w128 c.in_ok-cut.cut = search rules in
-    rw (to_z-of_z f) at c.reopen.ensures.reopened
-
-lowers : (c : goal.After-rounds)
-    → IsLowered c.args.state.now.search.found c.args.state.now.search.best c.args.filters.now c.args.k (cut_under c.args.gaps.now c.args.state.now) c.in_ok-cut.cut
-lowers c = rw (most-is c) at c.in_ok-cut.ensures
-
-pub rounds-requires-clause-settled : goal.rounds-requires-clause-settled
-rounds-requires-clause-settled c = reopened-all c.args.state.now c.reopen.new.self _ c.args.filters.now c.reopen.ensures.reopened
-
 pub returns-clause-ends : goal.returns-clause-ends
-returns-clause-ends c =
-    let f : FitsSigned w128 c.in_ok-cut.cut = search rules in
-    let most = cut_under c.args.gaps.now c.args.state.now in
-    let ends = rw (to_z-of_z f) at c.rounds.ensures.ends in
-    ends most (fits-reopened c.args.state.now c.reopen.new.self c.in_ok-cut.cut most c.args.filters.now c.args.k (reopens c) (lowers c))
+returns-clause-ends c = rw (most-is c) at c.finish.ensures.ends
 
 pub returns-clause-run : goal.returns-clause-run
 returns-clause-run c =
-    let f : FitsSigned w128 c.in_ok-cut.cut = search rules in
-    let old = c.args.state.now in
-    let new = c.rounds.new.state in
-    let cut = c.in_ok-cut.cut in
-    let fs = c.args.filters.now in
-    let run = rw (to_z-of_z f) at c.rounds.ensures.run in
-    let whole : IsLater old new cut fs c.args.node_limit =
-    later-from c.extensions_last.ensures.joined old c.reopen.new.self new cut fs c.args.node_limit (reopens c) c.reopen.ensures.extends (run cut (same-cut cut)) in
-    later-most old new cut (cut_under c.args.gaps.now old) fs c.args.node_limit (lowers c).lower whole
+    let first = rw (most-is c) at c.gather.ensures.run in
+    let then = rw (most-is c) at c.finish.ensures.run in
+    later-join c.extensions_last.ensures.joined c.args.state.now c.gather.new.state c.finish.new.state (cut_under c.args.gaps.now c.args.state.now) c.args.filters.now c.args.node_limit first.run then
 
 pub returns-clause-kept : goal.returns-clause-kept
 returns-clause-kept c =
-    let old = c.args.state.now in
-    let held = is_held c.args.filters.now in
-    let cut = c.in_ok-cut.cut in
-    spared-most cut (cut_under c.args.gaps.now old) held old.search.tree.nodes c.rounds.new.state.search.tree.nodes (lowers c).lower
-    (kept-all c.reopening_spares_licensed.ensures.spared c.reopening_spares_licensed.ensures.marked cut held
-    old.search.tree.nodes c.reopen.new.self.search.tree.nodes c.rounds.new.state.search.tree.nodes (ap (λ s. s.search.tree.nodes) (reopens c)) c.rounds.ensures.touched)
+    let first = rw (most-is c) at c.gather.ensures.run in
+    let then = rw (most-is c) at c.finish.ensures.kept in
+    spared-join (cut_under c.args.gaps.now c.args.state.now) (is_held c.args.filters.now) c.args.state.now.search.tree.nodes c.gather.new.state.search.tree.nodes c.finish.new.state.search.tree.nodes
+    c.gather.ensures.run.run.extends.known first.kept then
 
 pub returns-clause-covered : goal.returns-clause-covered
-returns-clause-covered c = c.rounds.ensures.covered (c.reopen.ensures.covered c.args.filters.now c.requires.can.covered)
+returns-clause-covered c = c.finish.ensures.covered (c.gather.ensures.run.covered c.requires.can.covered)

@@ -1,5 +1,5 @@
 -- What the first run of a model promises, from what its search found.
-use Rattle.std.specs.Prelude.{ℤ, ◌≤ℤ◌, ◌<ℤ◌, ◌^◌, ◌%◌, ◌-◌, filter, map, unsigned_abs, IfSome, All, AllPairs, Any, IsTrue, slice_index_or, Bool, true, false, if◌then◌else◌, nat_lt}
+use Rattle.std.specs.Prelude.{ℤ, ◌≤ℤ◌, ◌<ℤ◌, ◌^◌, ◌%◌, ◌-◌, filter, map, unsigned_abs, IfSome, All, AllPairs, slice_index_or, Bool, true, false, if◌then◌else◌, nat_lt}
 use Rattle.std.specs.List.{AllByRecursion}
 use Rattle.std.specs.Ordering.{int_eq}
 use Rattle.std.proofs.Common.{◌≡◌, ◌≢◌, ◌⊎◌, inl, inr, ℕ, zero, suc, cond, refl, ◌+◌, ◌<◌, ◌≤◌, List, [], ◌∷◌, ◌++◌, length, get_or, take, drop, Option, None, Some, sym, ap, ap₂, ◌∙◌, subst, arith, true≢false}
@@ -34,10 +34,10 @@ use Rattle.sp_engine.specs.declared.runs.Listing.{Listing}
 use Rattle.sp_engine.specs.InnerRuns.{IsFirstRun, IsFresh, IsListedBy, IsReplyOf, ListsOf, RepliesTo, first_run, run_end}
 use Rattle.sp_engine.specs.Notes.{run_notes}
 use Rattle.sp_engine.specs.Runs.{IsListing, IsSmall}
-use Rattle.sp_engine.specs.LegalRuns.{AreBetter, ArePhases, Asked, asked_of, HasOptimal, IsLegalRun, IsTreeFull, IsWanted, room_of}
+use Rattle.sp_engine.specs.LegalRuns.{ArePhases, Asked, asked_of, HasOptimal, IsLegalRun, IsTreeFull, IsWanted, room_of}
 use Rattle.sp_engine.specs.Listing.{IsSerial, RepliesAfter, after_run}
 use Rattle.sp_engine.specs.SolutionLists.{Lists}
-use Rattle.sp_engine.specs.Views.{Filter, Settings, View, passes, point_of}
+use Rattle.sp_engine.specs.Views.{Settings, View, passes, point_of}
 
 -- what the laws of models say: one number is the optimum, and no point has a large objective
 abbrev pub OneOptimum : Type 0
@@ -241,8 +241,6 @@ pub small_best : (m : ModelParts) (best : Option ℤ) → SmallObjectives → Fe
 small_best m None small within lawful least = tt
 small_best m (Some best) small within lawful least =
     subst (λ v. unsigned_abs v ≤ 10 ^ 36) least.reached.2 (small m least.reached.0 lawful (within m least.reached.0 lawful least.reached.1))
-
--- ---- the whole
 
 -- the first point of a value that was found
 first_at : (v : ℤ) (found : List Found) (k : ℕ) → k < length found → (at found k).value ≡ v

@@ -1,15 +1,13 @@
 -- What is printed of a run, whose notes stand behind the read's.
 use Rattle.std.specs.Prelude.{ℤ, flat_map, map, slice_index_or, All}
 use Rattle.std.specs.List.{AllByRecursion}
-use Rattle.std.proofs.Common.{◌≡◌, ℕ, zero, suc, ◌<◌, ◌≤◌, List, [], ◌∷◌, ◌++◌, length, Option, None, Some, refl, sym, ap, ◌∙◌, subst, arith}
+use Rattle.std.proofs.Common.{◌≡◌, ℕ, zero, suc, ◌<◌, ◌≤◌, List, [], ◌∷◌, ◌++◌, length, Some, refl, sym, ap, ◌∙◌, subst, arith}
 use Rattle.std.proofs.lemmas.List.{length-map}
 use Rattle.std.proofs.lemmas.List.Elements.{All-from_recursion, recursion_from_All}
 use Rattle.sp_draft.specs.SolutionLines.{solution_line}
-use Rattle.sp_model.specs.declared.parts.ModelParts.{ModelParts}
 use Rattle.sp_model.specs.Boxes.{IsWithin}
 use Rattle.sp_model.specs.Models.{root_of, Feasible}
 use Rattle.sp_meaning.specs.declared.models.NamedModel.{NamedModel}
-use Rattle.sp_engine.specs.declared.journals.Entry.{Entry}
 use Rattle.sp_engine.specs.declared.journals.Entry.TheVariants as entry
 use Rattle.sp_engine.specs.declared.journals.FetchNote.{FetchNote}
 use Rattle.sp_engine.specs.declared.journals.RunEnd.{RunEnd}

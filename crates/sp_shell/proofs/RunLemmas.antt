@@ -1,9 +1,9 @@
 -- What went out and was noted when a run ends.
-use Rattle.std.specs.Prelude.{ℤ, flat_map, map, filter, count_by, slice_index_or, All, Bool, true, false, IsTrue, Result, Ok, Err}
-use Rattle.std.specs.List.{list_all, AllByRecursion}
-use Rattle.std.proofs.Common.{◌≡◌, ℕ, zero, suc, ◌<◌, ◌≤◌, List, [], ◌∷◌, ◌++◌, length, Option, None, Some, refl, sym, ap, ◌∙◌, subst, ◌⊎◌, inl, inr, arith}
-use Rattle.std.proofs.lemmas.List.{append-nil, length-map}
-use Rattle.std.proofs.lemmas.List.Elements.{All-from_recursion, filter-append, recursion_from_All}
+use Rattle.std.specs.Prelude.{ℤ, filter, count_by, All, Bool, true, false, IsTrue, Result, Ok, Err}
+use Rattle.std.specs.List.{list_all}
+use Rattle.std.proofs.Common.{◌≡◌, ℕ, List, [], ◌∷◌, ◌++◌, length, Option, None, Some, refl, sym, ap, ◌∙◌, subst, ◌⊎◌, inl, inr, arith}
+use Rattle.std.proofs.lemmas.List.{append-nil}
+use Rattle.std.proofs.lemmas.List.Elements.{filter-append}
 use Rattle.std.proofs.lemmas.List.Sums.{length-filter}
 use Rattle.sp_base.specs.Told.{append}
 use Rattle.sp_base.specs.Counts.{RoseBy, raised_by}
@@ -27,7 +27,6 @@ use Rattle.sp_engine.specs.declared.journals.Entry.TheVariants as entry
 use Rattle.sp_engine.specs.declared.journals.FetchNote.{FetchNote}
 use Rattle.sp_engine.specs.declared.journals.FetchNote.TheVariants as note
 use Rattle.sp_engine.specs.declared.journals.RunEnd.{RunEnd}
-use Rattle.sp_engine.specs.declared.journals.RunEnd.TheVariants as end
 use Rattle.sp_meaning.specs.declared.models.NamedModel.{NamedModel}
 use Rattle.sp_engine.specs.declared.reading.ReadEnd.TheVariants as ended
 use Rattle.sp_meaning.specs.declared.refusals.Refusal.{Refusal}
@@ -35,21 +34,20 @@ use Rattle.sp_engine.specs.declared.replies.Reply.{Reply}
 use Rattle.sp_engine.specs.declared.replies.Reply.TheVariants as reply
 use Rattle.sp_engine.specs.declared.runs.Listing.{Listing}
 use Rattle.sp_meaning.specs.Formats.{format_of}
-use Rattle.sp_engine.specs.Listing.{IsSerial, ListsModel, RepliesAfter, after_run}
+use Rattle.sp_engine.specs.Listing.{ListsModel, RepliesAfter, after_run}
 use Rattle.sp_engine.specs.Notes.{AreAnswers, ShelfState, answer_of, is_answer, is_absence, is_overrun, is_fault, run_notes}
 use Rattle.sp_engine.specs.ReadEnds.{ReadSays, bytes_notes}
 use Rattle.sp_engine.specs.Reading.{SaysRead, WantsInRead, fetched_more, with_model}
 use Rattle.sp_engine.specs.Replies.{is_refused}
-use Rattle.sp_engine.specs.Runs.{IsListing}
-use Rattle.sp_engine.specs.Views.{Settings, View, begun, point_of, read_limit}
+use Rattle.sp_engine.specs.Runs.{IsListing, IsSmall}
+use Rattle.sp_engine.specs.Views.{Settings, View, begun, read_limit}
 use Rattle.sp_printing.specs.declared.wordings.Wording.TheVariants as wording
 use Rattle.sp_printing.specs.Wording.{spelling}
-use Rattle.sp_draft.specs.SolutionLines.{solution_line}
-use Rattle.sp_printing.specs.Replies.{done_head, listed_text, refusal_text, reply_text}
+use Rattle.sp_printing.specs.Replies.{refusal_text, reply_text}
 use Rattle.sp_shell.specs.Runs.{IsFileRun, Outcome, RequestText, RunText, RunUnsaid, Saying, Unsaid, settings_of, status_by}
 use Rattle.sp_shell.specs.Runs as run
 use Rattle.sp_shell.specs.InnerEndings.{status_after, Answered, Ended, IsWhole}
-use Rattle.sp_printing.specs.Printing.{AreNoted, CanPrint, IsPrintable, entry_line, named_of, printed_text, serial_line}
+use Rattle.sp_printing.specs.Printing.{CanPrint, named_of, printed_text}
 use Rattle.sp_shell.specs.InnerRuns.{IsRead, OwnNotes, is_own}
 
 -- a status that comes with a whole text, and what went out

@@ -1,7 +1,6 @@
 //! The top call: one run over a source, a shelf and a sink.
 ghost use Rattle.std.specs.Prelude.{◌≡◌, ◌≤◌, ◌<◌, ◌++◌, ◌∷◌, [], ◌⊎◌, Some, List, ℕ, Option};
-ghost use Rattle.std.specs.Prelude.{length, count_by};
-ghost use Rattle.std.specs.Prelude.{vec_len, vec_capacity};
+ghost use Rattle.std.specs.Prelude.{length, count_by, vec_len, vec_capacity};
 ghost use Rattle.sp_args.specs.Requests.{IsNoReading};
 ghost use Rattle.sp_base.specs.Buffers.{inner_of, waiting_of};
 ghost use Rattle.sp_base.specs.Counts.{Rose, RoseBy, raised_by};

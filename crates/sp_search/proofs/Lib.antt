@@ -5,4 +5,3 @@ pub mod MeasureLemmas
 pub mod RunLemmas
 pub mod StartLemmas
 pub mod StayLemmas
-pub mod CursorLemmas

@@ -1,5 +1,5 @@
 -- The search that a state begins with.
-use Rattle.std.proofs.Common.{◌≡◌, ℕ, ◌<◌, ◌≤◌, List, [], ◌∷◌, ◌++◌, length, Contains, IfSome, Option, refl, sym, ap, ◌∙◌, arith}
+use Rattle.std.proofs.Common.{◌≡◌, ℕ, ◌<◌, ◌≤◌, List, [], ◌∷◌, ◌++◌, length, Contains, refl, sym, ap, ◌∙◌, arith}
 use Rattle.std.proofs.lemmas.List.{append-nil, get_or_append_left}
 use Rattle.sp_model.specs.declared.parts.ModelParts.{ModelParts}
 use Rattle.sp_model.specs.Boxes.{Bounds}
@@ -12,8 +12,6 @@ use Rattle.sp_tree.specs.Trees.{TreeOf, open_node}
 use Rattle.sp_cover.specs.Cover.{IsEnded, SearchOf}
 use Rattle.sp_cover.specs.Moves.{moved_to, new_search}
 use Rattle.sp_search.specs.States.{AreStated, first_search}
-use Rattle.sp_search.specs.InnerCursors.{IsCursorOf}
-use Rattle.sp_search.specs.declared.cursors.Cursor.{Cursor}
 
 -- a list that made the table longer stands last
 longer-none : (old new : List MultiplierList) (list : MultiplierList) (k : ℕ) → IsPlaceOf list old new k → length old < length new → ¬ Contains old list
@@ -44,6 +42,3 @@ first-open m s is = rw is (record { proved = λ none. absurd (none 0 (record { k
 
 pub first-stated : (m : ModelParts) (s : SearchOf) (stated : ℕ) → s ≡ first_search m → stated ≡ length (stated_lists m) → AreStated m s stated
 first-stated m s stated is count = rw is (record { front = ([], sym (append-nil (stated_lists m))); count = count })
-
-pub begun-cursor : (m : ModelParts) (s : SearchOf) (cursor : Option Cursor) → s ≡ first_search m → IfSome cursor (IsCursorOf m (first_search m).tree) → IfSome cursor (IsCursorOf m s.tree)
-begun-cursor m s cursor is h = rw is h

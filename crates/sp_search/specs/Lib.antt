@@ -1,6 +1,5 @@
 pub mod States
 pub mod Steps
 pub mod InnerSteps
-pub mod InnerCursors
 pub mod Runs
 pub mod Measures

@@ -3,7 +3,7 @@
 ghost use Rattle.std.specs.Prelude.{◌↔◌, ◌<◌, length, IfNone, IfSome, IsTrue};
 ghost use Rattle.sp_cover.specs.Cover.{IsOpenAt, IsShut};
 
-use crate::states::State;
+use sp_model::{Model, VarId};
 use sp_tree::{Kind, NodeId, Tree};
 use std::alloc::Global;
 
@@ -24,17 +24,17 @@ impl Agenda {
 
     /// Puts the two parts of a split node on it: on top the one whose side of the variable costs less, and the part above
     /// where both cost the same. What has no memory is left out.
-    pub fn add_parts(&mut self, state: &State, node: NodeId)
-        requires { node < length state.now.search.tree.nodes }
+    pub fn add_parts(&mut self, model: &Model, tree: &Tree, node: NodeId)
+        requires { node < length tree.now.nodes }
     {
-        match &state.tree().node(node).kind {
+        match &tree.node(node).kind {
             Kind::Split {
                 var,
                 at: _,
                 left,
                 right,
             } => {
-                if state.rises_with(*var) {
+                if is_costly(model.parts().cost.as_slice(), *var) {
                     self.add(*right);
                     self.add(*left);
                 } else {
@@ -63,6 +63,16 @@ impl Agenda {
         }
         tree.open_leaf()
     }
+}
+
+/// Whether the objective rises with the variable.
+fn is_costly(cost: &[(VarId, i128)], var: VarId) -> bool {
+    for term in cost {
+        if term.0 == var {
+            return term.1 > 0;
+        }
+    }
+    false
 }
 
 /// Whether the node is an open leaf of the tree.

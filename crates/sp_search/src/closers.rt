@@ -15,6 +15,7 @@ ghost use Rattle.sp_bound.specs.StatedLists.{stated_lists};
 ghost use Rattle.sp_search.specs.Steps.{ClosesAs, IsFitFor, IsPastList, IsScreenFor, IsScreenOf, IsUnclosed, IsUnlisted, IsUnscreened, IsUnscreenedFor, aim_of};
 
 use crate::goals::Goal;
+use crate::hints::place_hint;
 use sp_activity::closed;
 use sp_bound::{Scratch, bound, bound_in, stated_lists_are_lists};
 use sp_cover::{Aim, Search, is_past};
@@ -48,8 +49,7 @@ fn least_objective(model: &Model, bounds: &BoxOf) -> i128
     sum_of(&parts.constant, &span.least)
 }
 
-/// The sum of two numbers.
-pub fn sum_of(left: &i128, right: &i128) -> i128
+fn sum_of(left: &i128, right: &i128) -> i128
     requires { unsigned_abs (left.now +ℤ right.now) ≤ 10 ^ 36 }
     ensures { result ≡ left.now +ℤ right.now }
 {
@@ -77,12 +77,7 @@ fn number_of(
 }
 
 /// The number of the list at a place, where there is one, as a bound, where it is past the aim.
-pub fn past_number(
-    number: &Option<i128>,
-    aim: &Aim,
-    best: &Option<i128>,
-    place: u32,
-) -> Option<Bound>
+fn past_number(number: &Option<i128>, aim: &Aim, best: &Option<i128>, place: u32) -> Option<Bound>
     ensures { MatchOption result
         ((v : ℤ) → number.now ≡ Some v → ¬ IsPast aim.now best.now v)
         (IsPastNumber number.now aim.now best.now place) }
@@ -103,7 +98,7 @@ pub fn past_number(
 }
 
 /// The number of the stated list at a place over the box, where it is past the aim.
-pub fn past_list(
+fn past_list(
     model: &Model,
     lists: &[Multipliers],
     place: u32,
@@ -127,7 +122,7 @@ pub fn past_list(
 }
 
 /// The first of the stated lists whose number over the box is past the aim.
-pub fn closing_list(
+fn closing_list(
     model: &Model,
     lists: &[Multipliers],
     stated: u32,
@@ -175,7 +170,7 @@ fn closing_filter(model: &Model, filters: &Filters, bounds: &BoxOf) -> Option<Fi
 }
 
 /// The held filter that closes the box, where the goal looks at filters.
-pub fn screen_of(model: &Model, goal: &Goal<'_>, bounds: &BoxOf) -> Option<FilterId>
+fn screen_of(model: &Model, goal: &Goal<'_>, bounds: &BoxOf) -> Option<FilterId>
     requires inside { IsInside (root_of model.now) bounds.now }
     requires fit { IsFitFor model.now goal.now }
     ensures { MatchOption result (IsUnscreenedFor goal.now bounds.now) (IsScreenFor goal.now bounds.now) }
@@ -243,7 +238,7 @@ fn wide_place(bounds: &BoxOf) -> Option<(VarId, i64)>
 }
 
 /// The place of a hint where the box can be split there, else another such place.
-pub fn hinted_place(hint: &Option<(VarId, i64)>, bounds: &BoxOf) -> Option<(VarId, i64)>
+fn hinted_place(hint: &Option<(VarId, i64)>, bounds: &BoxOf) -> Option<(VarId, i64)>
     requires { length bounds.now < 2 ^ 32 }
     ensures some { IfSome result (λ r. CanSplit bounds.now r.0 r.1) }
     ensures none { IfNone result ((j : ℕ) → ¬ CanSplit bounds.now j (range_at bounds.now j).0) }
@@ -257,4 +252,19 @@ pub fn hinted_place(hint: &Option<(VarId, i64)>, bounds: &BoxOf) -> Option<(VarI
         None => {}
     }
     wide_place(bounds)
+}
+
+/// A place where the box can be split, if it has more than one point.
+pub fn split_place(
+    model: &Model,
+    search: &Search,
+    goal: &Goal<'_>,
+    bounds: &BoxOf,
+) -> Option<(VarId, i64)>
+    requires { length bounds.now < 2 ^ 32 }
+    ensures some { IfSome result (λ r. CanSplit bounds.now r.0 r.1) }
+    ensures none { IfNone result ((j : ℕ) → ¬ CanSplit bounds.now j (range_at bounds.now j).0) }
+{
+    let hint = place_hint(model, &aim_of(goal), search.best(), bounds);
+    hinted_place(&hint, bounds)
 }

@@ -3,11 +3,8 @@
 
 mod agenda;
 mod closers;
-mod cursors;
 mod goals;
-mod hands;
 mod hints;
-mod kept_closers;
 mod optima;
 mod search_laws;
 #[cfg(test)]

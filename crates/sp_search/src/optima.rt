@@ -63,7 +63,7 @@ pub fn optimize(state: &mut State, node_limit: u32) -> Result<OptEnd, NoMemory>
         if stepped.is_full() {
             return Ok(OptEnd::NodeLimit);
         }
-        agenda.add_parts(state, node);
+        agenda.add_parts(state.model(), state.tree(), node);
     }
     Ok(end_of(state))
 }

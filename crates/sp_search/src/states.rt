@@ -10,14 +10,12 @@ ghost use Rattle.sp_cover.specs.Moves.{moved_to, reopened_tree};
 ghost use Rattle.sp_search.specs.States.{IsCovered, IsState, first_search, with_search};
 ghost use Rattle.sp_search.specs.Runs.{IsFirstBest};
 
-use crate::cursors::{Cursor, root_cursor};
-use crate::hints::price_of;
 use crate::starting::{begun, stated_count};
 use sp_bound::Scratch;
 use sp_cover::{Search, found_points_are_few};
 use sp_filter::Filters;
 use sp_list::Found;
-use sp_model::{Model as IntegerModel, NoMemory, VarId};
+use sp_model::{Model as IntegerModel, NoMemory};
 use sp_tree::Tree;
 use std::alloc::Global;
 use std::marker::Model;
@@ -30,19 +28,17 @@ pub struct State {
     pub(crate) model: IntegerModel,
     pub(crate) search: Search,
     pub(crate) stated: u32,
-    pub(crate) cursor: Option<Cursor>,
     pub(crate) scratch: Scratch,
 }
 
 impl Model for State {
-    ghost use Rattle.sp_search.specs.States.{StateOf};
-    ghost use Rattle.sp_search.specs.InnerCursors.{IsStateWith};
+    ghost use Rattle.sp_search.specs.States.{IsState, StateOf};
 
     ghost Value = { StateOf };
 
     ghost view = { λ s. record { model = s.model; search = s.search; stated = s.stated } };
 
-    ghost invariant = { λ s. IsStateWith (record { model = s.model; search = s.search; stated = s.stated }) s.cursor };
+    ghost invariant = { λ s. IsState (record { model = s.model; search = s.search; stated = s.stated }) };
 }
 
 impl State {
@@ -55,7 +51,6 @@ impl State {
     {
         let search = begun(alloc, &model)?;
         let stated = stated_count(&model, &search);
-        let cursor = root_cursor(alloc, &model)?;
         let scratch = Scratch::new(alloc, &model)?;
         let _parts = model.parts();
         Ok(State {
@@ -63,7 +58,6 @@ impl State {
             model,
             search,
             stated,
-            cursor,
             scratch,
         })
     }
@@ -116,14 +110,6 @@ impl State {
         found_points_are_few();
         let _size = self.search.tree().size();
         first_best(self.search.found(), self.search.best())
-    }
-
-    /// Whether the objective rises with a variable, as far as that is known at once: a hint.
-    pub(crate) fn rises_with(&self, var: VarId) -> bool {
-        match &self.cursor {
-            Some(cursor) => 0 < price_of(&cursor.hand.objective, var),
-            None => false,
-        }
     }
 
     /// Opens, after phase one, what the cut and the filters held no longer justify: the bounded leaves up to the cut, whose

@@ -1,6 +1,6 @@
 //! A step on an open leaf: it is closed, its point is found, it is split, or the tree is full.
 
-ghost use Rattle.std.specs.Prelude.{◌≡◌, ◌⊎◌, ◌^◌, ◌<◌, length, true, IfOk, IfSome, MatchOption, OnErr};
+ghost use Rattle.std.specs.Prelude.{◌≡◌, ◌⊎◌, ◌^◌, ◌<◌, length, true, IfOk, OnErr};
 ghost use Rattle.sp_model.specs.Boxes.{CanSplit};
 ghost use Rattle.sp_model.specs.Models.{root_of};
 ghost use Rattle.sp_sums.specs.Ranges.{IsInside, IsPointBox};
@@ -9,24 +9,20 @@ ghost use Rattle.sp_activity.specs.Within.{IsUnder};
 ghost use Rattle.sp_filter.specs.Held.{FilterList};
 ghost use Rattle.sp_tree.specs.Laws.{Extends};
 ghost use Rattle.sp_cover.specs.Cover.{AreScreened, IsOpenAt, IsShut};
-ghost use Rattle.sp_search.specs.InnerCursors.{IsCursorOf};
 ghost use Rattle.sp_search.specs.InnerSteps.{AreSingle, IsDone, IsOnly, IsReady, IsWorked};
 ghost use Rattle.sp_search.specs.States.{IsCovered, IsState, with_search};
-ghost use Rattle.sp_search.specs.Steps.{AreGoalFilters, ClosesAs, FitsGoal, IsUnclosed, Steps};
+ghost use Rattle.sp_search.specs.Steps.{AreGoalFilters, FitsGoal, IsUnclosed, Steps};
 
-use crate::closers::{aim_of, closing_kind, hinted_place};
-use crate::cursors::Cursor;
+use crate::closers::{closing_kind, split_place};
 use crate::goals::{Goal, Stepped};
-use crate::hints::{Look, place_hint};
-use crate::kept_closers::{aim_at, kept_kind};
 use crate::states::State;
 use sp_activity::open_points_are_feasible;
 use sp_bound::Scratch;
-use sp_cover::{Aim, Search, found_points_are_few};
+use sp_cover::{Search, found_points_are_few};
 use sp_list::Found;
 use sp_model::{BoxOf, Model, NoMemory, Point, VarId, root_is_short, split_divides_count};
 use sp_sums::sums_meet_at_a_point;
-use sp_tree::{Kind, NodeId, SplitRefusal, extensions_last, trees_divide};
+use sp_tree::{NodeId, SplitRefusal, extensions_last, trees_divide};
 use std::alloc::Global;
 
 /// The one point of a box whose ranges are single numbers.
@@ -107,157 +103,35 @@ fn split_wide(
     }
 }
 
-/// Does with an open leaf what its box asks for: what closes it, if anything does, and a hint where to split it else.
+/// Works on an open leaf whose box is in hand.
 fn advance(
     alloc: Global,
     model: &Model,
     search: &mut Search,
     stated: u32,
+    scratch: &mut Scratch,
     bounds: &BoxOf,
-    kind: Option<Kind>,
-    hint: &Option<(VarId, i64)>,
     node: NodeId,
     goal: &Goal<'_>,
     node_limit: u32,
 ) -> Result<Stepped, NoMemory>
     requires ready { IsReady model.now search.old stated bounds.now node goal.now }
-    requires kind { MatchOption kind
-        (IsUnclosed model.now search.old goal.now bounds.now)
-        (λ k. ClosesAs model.now search.old goal.now bounds.now k) }
     requires short { length bounds.now < 2 ^ 32 }
     ensures done { IsDone model.now search.old search.new goal.now node node_limit result }
     ensures screened { (fs : FilterList) → AreGoalFilters goal.now fs → AreScreened fs search.old.tree
         → AreScreened fs search.new.tree }
 {
-    match kind {
+    match closing_kind(model, search, stated, goal, bounds, scratch) {
         Some(kind) => {
             search.close(node, kind);
             Ok(Stepped::Closed)
         }
-        None => match hinted_place(hint, bounds) {
+        None => match split_place(model, search, goal, bounds) {
             None => find_only(alloc, model, search, stated, bounds, node, goal, node_limit),
             Some(place) => split_wide(
                 model, search, stated, bounds, node, goal, &place, node_limit,
             ),
         },
-    }
-}
-
-/// Works on an open leaf whose box comes from the tree.
-fn work_from_tree(
-    alloc: Global,
-    model: &Model,
-    search: &mut Search,
-    stated: u32,
-    scratch: &mut Scratch,
-    node: NodeId,
-    goal: &Goal<'_>,
-    node_limit: u32,
-) -> Result<Stepped, NoMemory>
-    requires state { IsState (record { model = model.now; search = search.old; stated = stated }) }
-    requires known { IsOpenAt search.old.tree.nodes node }
-    requires fits { FitsGoal goal.now (record { model = model.now; search = search.old; stated = stated }) }
-    ensures done { IsDone model.now search.old search.new goal.now node node_limit result }
-    ensures screened { (fs : FilterList) → AreGoalFilters goal.now fs
-        → AreScreened fs search.old.tree → AreScreened fs search.new.tree }
-{
-    root_is_short();
-    trees_divide();
-    let bounds = search.tree().box_of(node)?;
-    let kind = closing_kind(model, search, stated, goal, &bounds, scratch);
-    advance(
-        alloc, model, search, stated, &bounds, kind, &None, node, goal, node_limit,
-    )
-}
-
-/// Where to split the box in hand, if nothing closes it.
-fn hint_of(
-    model: &Model,
-    aim: &Aim,
-    best: &Option<i128>,
-    cursor: &Cursor,
-    kind: &Option<Kind>,
-) -> Option<(VarId, i64)> {
-    match kind {
-        Some(_) => None,
-        None => {
-            let last = match cursor.backs.as_slice().last() {
-                Some(back) => Some(back.var),
-                None => None,
-            };
-            let turn = cursor.node.place();
-            place_hint(model, aim, best, &cursor.hand, &Look { last, turn })
-        }
-    }
-}
-
-/// Works on an open leaf that the cursor is at.
-fn work_in_hand(
-    alloc: Global,
-    model: &Model,
-    search: &mut Search,
-    stated: u32,
-    cursor: &mut Cursor,
-    scratch: &mut Scratch,
-    node: NodeId,
-    goal: &Goal<'_>,
-    node_limit: u32,
-) -> Result<Stepped, NoMemory>
-    requires state { IsState (record { model = model.now; search = search.old; stated = stated }) }
-    requires cursor { IsCursorOf model.now search.old.tree cursor.old }
-    requires here { cursor.old.node ≡ node }
-    requires known { IsOpenAt search.old.tree.nodes node }
-    requires fits { FitsGoal goal.now (record { model = model.now; search = search.old; stated = stated }) }
-    ensures cursor { IsCursorOf model.now search.old.tree cursor.new }
-    ensures done { IsDone model.now search.old search.new goal.now node node_limit result }
-    ensures screened { (fs : FilterList) → AreGoalFilters goal.now fs
-        → AreScreened fs search.old.tree → AreScreened fs search.new.tree }
-{
-    root_is_short();
-    let aim = aim_of(goal);
-    let is_aimed = aim_at(model, &mut cursor.hand, &aim, search.best());
-    let hand = &cursor.hand;
-    let bounds = hand.truths.bounds_in(model);
-    let kind = kept_kind(
-        model, search, stated, goal, &aim, bounds, hand, is_aimed, scratch,
-    );
-    let hint = hint_of(model, &aim, search.best(), cursor, &kind);
-    advance(
-        alloc, model, search, stated, bounds, kind, &hint, node, goal, node_limit,
-    )
-}
-
-/// Works on an open leaf: with a cursor, which goes there, or else from the tree.
-fn work_by(
-    alloc: Global,
-    model: &Model,
-    search: &mut Search,
-    stated: u32,
-    cursor: &mut Option<Cursor>,
-    scratch: &mut Scratch,
-    node: NodeId,
-    goal: &Goal<'_>,
-    node_limit: u32,
-) -> Result<Stepped, NoMemory>
-    requires state { IsState (record { model = model.now; search = search.old; stated = stated }) }
-    requires cursor { IfSome cursor.old (IsCursorOf model.now search.old.tree) }
-    requires known { IsOpenAt search.old.tree.nodes node }
-    requires fits { FitsGoal goal.now (record { model = model.now; search = search.old; stated = stated }) }
-    ensures cursor { IfSome cursor.new (IsCursorOf model.now search.old.tree) }
-    ensures done { IsDone model.now search.old search.new goal.now node node_limit result }
-    ensures screened { (fs : FilterList) → AreGoalFilters goal.now fs
-        → AreScreened fs search.old.tree → AreScreened fs search.new.tree }
-{
-    match cursor {
-        None => work_from_tree(
-            alloc, model, search, stated, scratch, node, goal, node_limit,
-        ),
-        Some(cursor) => {
-            cursor.go(model, search.tree(), node)?;
-            work_in_hand(
-                alloc, model, search, stated, cursor, scratch, node, goal, node_limit,
-            )
-        }
     }
 }
 
@@ -267,23 +141,23 @@ fn work(
     model: &Model,
     search: &mut Search,
     stated: u32,
-    cursor: &mut Option<Cursor>,
     scratch: &mut Scratch,
     node: NodeId,
     goal: &Goal<'_>,
     node_limit: u32,
 ) -> Result<Stepped, NoMemory>
     requires state { IsState (record { model = model.now; search = search.old; stated = stated }) }
-    requires cursor { IfSome cursor.old (IsCursorOf model.now search.old.tree) }
     requires known { IsOpenAt search.old.tree.nodes node }
     requires fits { FitsGoal goal.now (record { model = model.now; search = search.old; stated = stated }) }
-    ensures cursor { IfSome cursor.new (IsCursorOf model.now search.new.tree) }
     ensures worked { IsWorked model.now search.old search.new stated goal.now node node_limit result }
     ensures screened { (fs : FilterList) → AreGoalFilters goal.now fs
         → AreScreened fs search.old.tree → AreScreened fs search.new.tree }
 {
-    let stepped = work_by(
-        alloc, model, search, stated, cursor, scratch, node, goal, node_limit,
+    root_is_short();
+    trees_divide();
+    let bounds = search.tree().box_of(node)?;
+    let stepped = advance(
+        alloc, model, search, stated, scratch, &bounds, node, goal, node_limit,
     )?;
     search.settle();
     Ok(stepped)
@@ -320,7 +194,6 @@ pub fn step(
         &state.model,
         &mut state.search,
         state.stated,
-        &mut state.cursor,
         &mut state.scratch,
         node,
         goal,

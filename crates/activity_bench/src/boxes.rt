@@ -19,8 +19,8 @@ pub fn plain_tight(alloc: Global, model: &Model, kept: &Kept) -> Option<(VarId, 
     }
 }
 
-/// The first reason of the box with the ends of one range changed over, so that it is empty unless it has one value; none
-/// where the variable is unknown, or there is no memory.
+/// The first reason of the box with the ends of one range changed over, so that it is empty unless it has one value;
+/// none where the variable is unknown, or there is no memory.
 pub fn crossed_reason(alloc: Global, model: &Model, kept: &Kept, var: VarId) -> Option<Reason>
     requires { IsKeptOf model.now kept.now }
 {

@@ -1,5 +1,5 @@
-//! `activity_bench` makes the model of the lines of standard input, carries out its further lines on a kept box, and prints
-//! what the kept box and the plain calls say of it. src/models.rt and src/walking.rt say what lines there are.
+//! `activity_bench` makes the model of the lines of standard input, carries out its further lines on a kept box, and
+//! prints what the kept box and the plain calls say of it. src/models.rt and src/walking.rt say what lines there are.
 //! The scripts `scripts/compare_reasons.py` and `bench/activity.py` run it.
 #![tactic(auto)]
 

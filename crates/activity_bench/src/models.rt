@@ -5,10 +5,10 @@ use sp_model::{Indicator, Items, Model, ModelParts, NoMemory, Row, Sos, SosKind,
 use std::alloc::Global;
 use std::str::SplitWhitespace;
 
-/// The model of the lines `var LOWER UPPER`, `row SIDES TERMS`, `gate VARIABLE ON SIDES TERMS`, `set KIND COUNT VARIABLES` and
-/// `core VARIABLE LOWER UPPER`; other lines are left to others. SIDES are four numbers: whether there is a least side, that
-/// side, and the same for the greatest. TERMS are how many there are, and a variable and its coefficient for each. `None`
-/// where they are no model, or there is no memory.
+/// The model of the lines `var LOWER UPPER`, `row SIDES TERMS`, `gate VARIABLE ON SIDES TERMS`, `set KIND COUNT
+/// VARIABLES` and `core VARIABLE LOWER UPPER`; other lines are left to others. SIDES are four numbers: whether there is
+/// a least side, that side, and the same for the greatest. TERMS are how many there are, and a variable and its
+/// coefficient for each. `None` where they are no model, or there is no memory.
 pub fn model_of(alloc: Global, text: &str) -> Option<Model> {
     let mut parts = ModelParts {
         maximize: false,

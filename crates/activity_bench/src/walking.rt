@@ -13,9 +13,9 @@ use std::io;
 use std::io::Write;
 use std::str::SplitWhitespace;
 
-/// Carries out the lines `change VARIABLE LOWER UPPER`, `state`, `tight`, `crossed VARIABLE`, `holds KIND PLACE PLACE PLACE`,
-/// `rounds ROUNDS LOWER UPPER LOWER UPPER` and `make ROUNDS` on the closed box of the model of the other lines. A range that
-/// a variable can't have changes nothing.
+/// Carries out the lines `change VARIABLE LOWER UPPER`, `state`, `tight`, `crossed VARIABLE`, `holds KIND PLACE PLACE
+/// PLACE`, `rounds ROUNDS LOWER UPPER LOWER UPPER` and `make ROUNDS` on the closed box of the model of the other lines.
+/// A range that a variable can't have changes nothing.
 pub fn walk<W: Write>(out: &mut W, alloc: Global, text: &str) -> io::Result<()> {
     match model_of(alloc, text) {
         Some(model) => walk_model(out, alloc, &model, text),

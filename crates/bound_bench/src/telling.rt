@@ -58,8 +58,8 @@ fn tell_model<W: Write>(
     }
 }
 
-/// Sets the threshold and the box of the next numbers, and prints in how many rounds before that a list closed, which one
-/// closes then, and the bounds.
+/// Sets the threshold and the box of the next numbers, and prints in how many rounds before that a list closed, which
+/// one closes then, and the bounds.
 fn tell_kept<W: Write>(
     out: &mut W,
     alloc: Global,
@@ -141,8 +141,8 @@ fn tell_stated<W: Write>(
     Ok(())
 }
 
-/// Prints the bounds of the lists that the next numbers are: how often each is asked by either call, how many they are, and
-/// each of them.
+/// Prints the bounds of the lists that the next numbers are: how often each is asked by either call, how many they are,
+/// and each of them.
 fn tell_lists<W: Write>(
     out: &mut W,
     alloc: Global,

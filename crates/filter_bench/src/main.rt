@@ -1,5 +1,6 @@
-//! `filter_bench` does with a model and a list of filters what the lines of standard input say, and prints what they answer.
-//! src/telling.rt says what lines there are. The scripts `scripts/compare_filters.py` and `bench/filters.py` run it.
+//! `filter_bench` does with a model and a list of filters what the lines of standard input say, and prints what they
+//! answer. src/telling.rt says what lines there are. The scripts `scripts/compare_filters.py` and `bench/filters.py`
+//! run it.
 #![tactic(auto)]
 
 mod asking;

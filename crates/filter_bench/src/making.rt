@@ -37,8 +37,8 @@ fn parts_of(alloc: Global, lower: Items<Option<i64>>, upper: Items<Option<i64>>)
     }
 }
 
-/// The model of variables with these bounds, a lower and an upper one for each, and nothing else; `None` where there is none,
-/// or no memory for it.
+/// The model of variables with these bounds, a lower and an upper one for each, and nothing else; `None` where there is
+/// none, or no memory for it.
 pub fn model_of(alloc: Global, numbers: &[Option<Decimal>]) -> Option<Model> {
     match every_second(alloc, numbers, 0) {
         Ok(lower) => match every_second(alloc, numbers, 1) {
@@ -82,8 +82,8 @@ fn multiples_of(
     Ok(terms)
 }
 
-/// The draft of a diversity filter: behind its name two bounds, and then a variable, its weight and its reference for each
-/// term.
+/// The draft of a diversity filter: behind its name two bounds, and then a variable, its weight and its reference for
+/// each term.
 pub fn diversity_of(alloc: Global, numbers: &[Option<Decimal>]) -> Result<FilterDraft, NoMemory> {
     let terms = distances_of(alloc, numbers)?;
     Ok(FilterDraft::Diversity {

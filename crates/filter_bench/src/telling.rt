@@ -14,10 +14,10 @@ use std::alloc::Global;
 use std::io;
 use std::io::Write;
 
-/// Does what the lines say, one after another: `model L U ..` makes a model of variables with these bounds and keeps the
-/// filters, `new` drops the filters; `range NAME LO HI J A ..` and `diversity NAME LO HI J W REF ..` add a filter, `-` for no
-/// bound; `remove NAME`; `place ID`; `held` lists each filter and whether it fits the model; `point ROUNDS V ..` asks for a
-/// point so many times, and `box ROUNDS` for the model's closed box.
+/// Does what the lines say, one after another: `model L U ..` makes a model of variables with these bounds and keeps
+/// the filters, `new` drops the filters; `range NAME LO HI J A ..` and `diversity NAME LO HI J W REF ..` add a filter,
+/// `-` for no bound; `remove NAME`; `place ID`; `held` lists each filter and whether it fits the model; `point ROUNDS V
+/// ..` asks for a point so many times, and `box ROUNDS` for the model's closed box.
 pub fn tell_all<W: Write>(out: &mut W, alloc: Global, text: &str) -> io::Result<()> {
     let mut filters = Filters::new(alloc);
     match model_of(alloc, &[]) {

@@ -212,8 +212,8 @@ fn name_next(alloc: Global, names: &mut Names, place: usize) -> Result<()> {
     add_name(names, name.as_bytes())
 }
 
-/// Puts the variable behind the others. The first line only mentions types, without which the toolchain stops here with a
-/// fault of its own.
+/// Puts the variable behind the others. The first line only mentions types, without which the toolchain stops here with
+/// a fault of its own.
 fn push_variable(vars: &mut Items<DraftVar>, variable: DraftVar) -> Result<()> {
     let _held: Option<(VarKind, Numeral)> = None;
     vars.push(variable)?;

@@ -4,8 +4,8 @@ use sp_model::{Indicator, Model, Row, Sos, SosKind, VarId};
 use std::io;
 use std::io::Write;
 
-/// Writes the parts of a model in one line: direction, scale and constant, the objective's terms, the stated bounds of each
-/// variable, and what comes with them.
+/// Writes the parts of a model in one line: direction, scale and constant, the objective's terms, the stated bounds of
+/// each variable, and what comes with them.
 pub fn write_model<W: Write>(out: &mut W, model: &Model) -> io::Result<()> {
     let parts = model.parts();
     let direction = if parts.maximize { "max" } else { "min" };

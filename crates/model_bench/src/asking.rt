@@ -4,7 +4,8 @@ ghost use Rattle.sp_model.specs.Models.{root_of};
 
 use sp_model::{Model, Point};
 
-/// In how many of the rounds the point that is asked about is feasible: `even` in the first, `odd` in the second, and so on.
+/// In how many of the rounds the point that is asked about is feasible: `even` in the first, `odd` in the second, and
+/// so on.
 pub fn feasible_points(model: &Model, even: &Point, odd: &Point, rounds: u64) -> u64
     requires even_within { IsWithin (root_of model.now) even.now }
     requires odd_within { IsWithin (root_of model.now) odd.now }

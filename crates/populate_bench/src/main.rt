@@ -1,5 +1,5 @@
-//! `populate_bench` carries out the lines of standard input: models, gaps, filters, runs to the optimum, to all listed points
-//! and to the first ones, lists, and whole trees. src/session.rt says what lines there are. The scripts
+//! `populate_bench` carries out the lines of standard input: models, gaps, filters, runs to the optimum, to all listed
+//! points and to the first ones, lists, and whole trees. src/session.rt says what lines there are. The scripts
 //! `scripts/compare_populate.py` and `bench/populate.py` run it.
 #![tactic(auto)]
 

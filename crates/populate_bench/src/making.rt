@@ -140,8 +140,8 @@ fn multiples_of(
     Ok(terms)
 }
 
-/// The draft of a diversity filter: behind its name two bounds, and then a variable, its weight and its reference for each
-/// term.
+/// The draft of a diversity filter: behind its name two bounds, and then a variable, its weight and its reference for
+/// each term.
 pub fn diversity_of(alloc: Global, numbers: &[Option<Decimal>]) -> Result<FilterDraft, NoMemory> {
     let terms = distances_of(alloc, numbers)?;
     Ok(FilterDraft::Diversity {

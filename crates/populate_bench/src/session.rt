@@ -39,12 +39,12 @@ fn begun(alloc: Global, model: Model) -> Result<State>
     }
 }
 
-/// Carries out the lines: `model L U ..`, with the bounds of each variable, begins a new model, without filters and with
-/// unlimited gaps; `cost C ..`, with the cost of each variable, and `row LO HI J A ..`, with two sides and a variable and its
-/// coefficient for each term, stand behind it, and `-` is no side. `gaps ABS REL` sets both gaps, `-` for an unlimited one;
-/// `range NAME LO HI J A ..`, `diversity NAME LO HI J W REF ..` and `remove NAME` change the filters; `optimize NODES`,
-/// `populate NODES FOUND` and `nbest K NODES` run, `-` for no limit; `list` and `count` list the points, `count` without
-/// their serials; and `tree` prints all nodes and found points.
+/// Carries out the lines: `model L U ..`, with the bounds of each variable, begins a new model, without filters and
+/// with unlimited gaps; `cost C ..`, with the cost of each variable, and `row LO HI J A ..`, with two sides and a
+/// variable and its coefficient for each term, stand behind it, and `-` is no side. `gaps ABS REL` sets both gaps, `-`
+/// for an unlimited one; `range NAME LO HI J A ..`, `diversity NAME LO HI J W REF ..` and `remove NAME` change the
+/// filters; `optimize NODES`, `populate NODES FOUND` and `nbest K NODES` run, `-` for no limit; `list` and `count` list
+/// the points, `count` without their serials; and `tree` prints all nodes and found points.
 pub fn run_all<P: Print>(rt: &P, alloc: Global, lines: &[String]) -> Result<()> {
     for place in 0..lines.len() {
         if kind_of(lines[place].as_str()) == Kind::Model {

@@ -1,8 +1,7 @@
-//! `reader_bench read|print ROUNDS` reads, or prints, so many numbers of ten digits and prints a checksum of what came out.
-//! `reader_bench tokens|list` cuts standard input into tokens, and prints their number, or a line for each.
+//! `reader_bench read|print ROUNDS` reads, or prints, so many numbers of ten digits and prints a checksum of what came
+//! out. `reader_bench tokens|list` cuts standard input into tokens, and prints their number, or a line for each.
 //! `reader_bench mps|mps-draft` reads an MPS file from standard input, and prints its sizes, or its draft; or why it
-//! has none.
-//! The scripts `bench/decimals.py`, `bench/tokens.py`, `bench/mps.py`, `scripts/compare_tokens.py` and
+//! has none. The scripts `bench/decimals.py`, `bench/tokens.py`, `bench/mps.py`, `scripts/compare_tokens.py` and
 //! `scripts/compare_mps.py` run it.
 #![tactic(auto)]
 

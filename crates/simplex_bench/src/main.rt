@@ -1,5 +1,5 @@
-//! `simplex_bench` reads models from standard input and prints a line for each: how the finder's search on its closed box
-//! ended, the bound of the list, and that of the list raised by a million. `scripts/compare_simplex.py` runs it.
+//! `simplex_bench` reads models from standard input and prints a line for each: how the finder's search on its closed
+//! box ended, the bound of the list, and that of the list raised by a million. `scripts/compare_simplex.py` runs it.
 #![tactic(auto)]
 
 mod making;

@@ -1,5 +1,6 @@
 //! Models of a list of numbers: how many variables and rows, for each variable its bounds and its cost, and for each
-//! row whether it has a least side, that side, whether it has a greatest side, that side, and each variable's coefficient.
+//! row whether it has a least side, that side, whether it has a greatest side, that side, and each variable's
+//! coefficient.
 
 use crate::numbers::number_at;
 use anyhow::{Result, bail};

@@ -139,7 +139,8 @@ fn run_new(alloc: Global, state: &mut State, gaps: &Gaps, node_limit: u32) -> Re
     Ok(Said { notes, reply })
 }
 
-/// Lists the solutions of a model within these gaps, with a tree of so many nodes at most. `NoMemory` may come at any time.
+/// Lists the solutions of a model within these gaps, with a tree of so many nodes at most. `NoMemory` may come at any
+/// time.
 pub fn list(
     alloc: Global,
     named: NamedModel,

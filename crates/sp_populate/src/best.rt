@@ -67,7 +67,8 @@ fn is_lower(state: &State, k: u32, cut: &i128, filters: &Filters, value: &i128) 
     }
 }
 
-/// A cut that isn't above this one, nor below the least value found, and up to which there are k points to list if it is less.
+/// A cut that isn't above this one, nor below the least value found, and up to which there are k points to list if it
+/// is less.
 fn lowered(
     alloc: Global,
     state: &State,
@@ -107,8 +108,8 @@ fn first_serials(
     Ok(serials)
 }
 
-/// Collects up to the cut, and, wherever so many points were found, goes on with a cut that falls to the value of the k-th, and
-/// twice as many.
+/// Collects up to the cut, and, wherever so many points were found, goes on with a cut that falls to the value of the
+/// k-th, and twice as many.
 fn rounds(
     alloc: Global,
     state: &mut State,
@@ -204,8 +205,8 @@ fn least_cut(state: &State, most: &i128) -> i128
     }
 }
 
-/// Opens what the cut and the filters held no longer justify, and collects up to it until so many points were found. Answers
-/// whether no leaf is left.
+/// Opens what the cut and the filters held no longer justify, and collects up to it until so many points were found.
+/// Answers whether no leaf is left.
 fn gather_to(
     state: &mut State,
     k: u32,
@@ -228,8 +229,8 @@ fn gather_to(
     Ok(end == PopEnd::Done)
 }
 
-/// Collects up to cuts that rise from this one to the most, until k points to list were found. What it finds lets the cut for
-/// the first k points fall at once.
+/// Collects up to cuts that rise from this one to the most, until k points to list were found. What it finds lets the
+/// cut for the first k points fall at once.
 fn gather(
     state: &mut State,
     k: u32,
@@ -285,7 +286,8 @@ fn finish(
     rounds(alloc, state, k, k.max(1), &cut, filters, node_limit)
 }
 
-/// Finds the first k points up to the present cut: some first, up to cuts that rise, and then all up to the value of the k-th.
+/// Finds the first k points up to the present cut: some first, up to cuts that rise, and then all up to the value of
+/// the k-th.
 fn collect_best(
     alloc: Global,
     state: &mut State,
@@ -311,10 +313,10 @@ fn collect_best(
     finish(alloc, state, k, &most, filters, node_limit)
 }
 
-/// The serials of the first k points of the list, in its order, or of all where it is shorter. It ends phase one if that hasn't
-/// ended, opens what the cuts that it takes and the filters no longer justify, and collects. Its cut rises from the optimum
-/// until k points were found, and then falls to the value of the k-th, so that points behind these are found only by the way. After an error the state is that
-/// of the last whole step.
+/// The serials of the first k points of the list, in its order, or of all where it is shorter. It ends phase one if
+/// that hasn't ended, opens what the cuts that it takes and the filters no longer justify, and collects. Its cut rises
+/// from the optimum until k points were found, and then falls to the value of the k-th, so that points behind these are
+/// found only by the way. After an error the state is that of the last whole step.
 pub fn nbest(
     alloc: Global,
     state: &mut State,
@@ -325,8 +327,8 @@ pub fn nbest(
 ) -> Result<NBestEnd, NoMemory>
     requires can { CanRun gaps.now filters.now state.old }
 
-    // The answer: Done with the first points of the list, and the node limit only where nothing closes an open leaf and there
-    // is no room.
+    // The answer: Done with the first points of the list, and the node limit only where nothing closes an open leaf and
+    // there is no room.
     ensures ends { IfOk result (λ end. NBestEnds state.new gaps.now filters.now k node_limit end) }
     ensures roomy { room (point_count (root_of state.old.model)) ≤ node_limit → result ≢ Ok NBestEnd.NodeLimit }
 

@@ -22,8 +22,8 @@ pub fn best_value(state: &State) -> Option<i128>
     }
 }
 
-/// The cut of the least value that the state found, under the gaps; the greatest cut there is where it found nothing. It
-/// takes no memory.
+/// The cut of the least value that the state found, under the gaps; the greatest cut there is where it found nothing.
+/// It takes no memory.
 pub fn present_cut(state: &State, gaps: &Gaps) -> i128
     requires abs { IsGap gaps.now.abs }
     requires rel { IsGap gaps.now.rel }

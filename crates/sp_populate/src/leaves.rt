@@ -36,8 +36,8 @@ fn open_part(tree: &Tree, node: NodeId) -> Option<NodeId>
     }
 }
 
-/// An open leaf, none exactly where no leaf is open: a part of the last node or of one on the way up from it, else the first
-/// of the tree.
+/// An open leaf, none exactly where no leaf is open: a part of the last node or of one on the way up from it, else the
+/// first of the tree.
 pub fn next_leaf(tree: &Tree, last: NodeId) -> Option<NodeId>
     ensures found { IfSome result (IsOpenAt tree.now.nodes) }
     ensures none { IfNone result (IsShut tree.now.nodes) }

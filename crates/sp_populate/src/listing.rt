@@ -144,8 +144,8 @@ pub fn sorted_within(
     sorted(alloc, found_in(state, filters), cut, filters)
 }
 
-/// The serials of the listed points: those that are feasible, pass the filters and aren't above the cut of the optimum under
-/// the gaps, best objective first and then lexicographically.
+/// The serials of the listed points: those that are feasible, pass the filters and aren't above the cut of the optimum
+/// under the gaps, best objective first and then lexicographically.
 pub fn list(
     alloc: Global,
     state: &State,

@@ -29,7 +29,8 @@ pub fn lists_are_filtered()
     list_is_list_of();
 }
 
-/// A law: a filter that is added or removed between runs keeps the cover, and filters for the model stay filters for it.
+/// A law: a filter that is added or removed between runs keeps the cover, and filters for the model stay filters for
+/// it.
 pub fn changed_filters_keep_the_cover()
     ensures added { (fs : FilterList) (name : List ℕ) (d : FilterDraft) (s : StateOf)
         → IsCovered fs s → IsCovered (with_filter fs name d) s }

@@ -13,8 +13,9 @@ use sp_search::State;
 use std::alloc::{AllocError, Global};
 use std::test::Fail;
 
-/// Three binaries: their costs, the coefficients and the sides of one row, the absolute gap, the node limit, the populate
-/// limit, the end, and the list: behind a 9 the points as numbers of three binary digits, and 0 where there is none.
+/// Three binaries: their costs, the coefficients and the sides of one row, the absolute gap, the node limit, the
+/// populate limit, the end, and the list: behind a 9 the points as numbers of three binary digits, and 0 where there is
+/// none.
 type Case = (
     [i128; 3],
     [i128; 3],

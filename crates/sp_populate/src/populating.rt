@@ -5,7 +5,7 @@ ghost use Rattle.sp_model.specs.Boxes.{point_count, room};
 ghost use Rattle.sp_model.specs.Models.{root_of};
 ghost use Rattle.sp_tree.specs.Trees.{is_held};
 ghost use Rattle.sp_search.specs.Runs.{KeepsShut};
-ghost use Rattle.sp_search.specs.States.{AreFit, IsCovered, IsState};
+ghost use Rattle.sp_search.specs.States.{AreFit, HasCursor, IsCovered, IsState};
 ghost use Rattle.sp_populate.specs.Complete.{CanRun, IsCompleteFor, cut_under};
 ghost use Rattle.sp_populate.specs.Ends.{IsPopulateFull, IsPopulated, KeepsLicensed, PopEnds, SparesLicensed};
 ghost use Rattle.sp_populate.specs.InnerEnds.{AreSettled, CollectEnds, IsLater, found_by};
@@ -14,6 +14,7 @@ ghost use Rattle.sp_populate.specs.declared.populating.PopEnd.TheVariants as Pop
 use crate::cuts::present_cut;
 use crate::leaves::next_leaf;
 use sp_cover::found_points_are_few;
+use sp_cursor::Cursor;
 use sp_filter::Filters;
 use sp_model::{Gaps, NoMemory, split_divides_count};
 use sp_search::{Goal, State, Stepped, optimize, searches_are_small, step, steps_fall};
@@ -31,6 +32,48 @@ pub enum PopEnd {
 }
 
 /// Takes open leaves until none is left, or so many points were found.
+fn take_leaves(
+    state: &mut State,
+    cursor: &mut Option<Cursor>,
+    cut: &i128,
+    filters: &Filters,
+    node_limit: u32,
+    found_limit: u32,
+) -> Result<PopEnd, NoMemory>
+    requires proved { state.old.search.proved ≡ true }
+    requires above { IfSome state.old.search.best (λ best. best ≤ℤ cut.now) }
+    requires fit { AreFit state.old.model filters.now }
+    requires settled { AreSettled cut.now (is_held filters.now) state.old.search.tree.nodes }
+    requires cursor { HasCursor state.old cursor.old }
+    ensures ends { IfOk result (λ end. CollectEnds state.old state.new cut.now filters.now node_limit found_limit end) }
+    ensures run { IsLater state.old state.new cut.now filters.now node_limit }
+    ensures settled { AreSettled cut.now (is_held filters.now) state.new.search.tree.nodes }
+    ensures touched { KeepsShut state.old.search.tree.nodes state.new.search.tree.nodes }
+    ensures covered { IsCovered filters.now state.old → IsCovered filters.now state.new }
+    ensures state { IsState state.new }
+{
+    extensions_last();
+    steps_fall();
+    let _phase = state.proved();
+    let mut left = found_limit;
+    let mut last = NodeId::new(0);
+    while let Some(node) = next_leaf(state.tree(), last) {
+        if left == 0 {
+            let _size = state.tree().size();
+            return Ok(PopEnd::PopulateLimit);
+        }
+        let goal = Goal::Collect { cut: *cut, filters };
+        let stepped = step(state, cursor, node, &goal, node_limit)?;
+        if stepped.is_full() {
+            return Ok(PopEnd::NodeLimit);
+        }
+        left -= found_by(&stepped);
+        last = node;
+    }
+    Ok(PopEnd::Done)
+}
+
+/// The same with a cursor of its own, which takes no time that grows with the tree.
 pub fn work_off(
     state: &mut State,
     cut: &i128,
@@ -50,24 +93,8 @@ pub fn work_off(
     ensures state { IsState state.new }
 {
     extensions_last();
-    steps_fall();
-    let _phase = state.proved();
-    let mut left = found_limit;
-    let mut last = NodeId::new(0);
-    while let Some(node) = next_leaf(state.tree(), last) {
-        if left == 0 {
-            let _size = state.tree().size();
-            return Ok(PopEnd::PopulateLimit);
-        }
-        let goal = Goal::Collect { cut: *cut, filters };
-        let stepped = step(state, node, &goal, node_limit)?;
-        if stepped.is_full() {
-            return Ok(PopEnd::NodeLimit);
-        }
-        left -= found_by(&stepped);
-        last = node;
-    }
-    Ok(PopEnd::Done)
+    let mut cursor = state.cursor()?;
+    take_leaves(state, &mut cursor, cut, filters, node_limit, found_limit)
 }
 
 /// How many points a step found.
@@ -81,8 +108,8 @@ fn found_by(stepped: &Stepped) -> u32
     }
 }
 
-/// Opens what the present cut and the filters held no longer justify, and takes open leaves until none is left, or so many
-/// points were found.
+/// Opens what the present cut and the filters held no longer justify, and takes open leaves until none is left, or so
+/// many points were found.
 fn collect(
     state: &mut State,
     gaps: &Gaps,
@@ -108,9 +135,9 @@ fn collect(
     work_off(state, &cut, filters, node_limit, found_limit)
 }
 
-/// Finds all points that pass the filters and aren't above the cut of the optimum under the gaps. It ends phase one if that
-/// hasn't ended, opens what the present cut and filters no longer justify, and collects. After an error the state is that of
-/// the last whole step.
+/// Finds all points that pass the filters and aren't above the cut of the optimum under the gaps. It ends phase one if
+/// that hasn't ended, opens what the present cut and filters no longer justify, and collects. After an error the state
+/// is that of the last whole step.
 pub fn populate(
     state: &mut State,
     gaps: &Gaps,
@@ -121,8 +148,8 @@ pub fn populate(
     requires can { CanRun gaps.now filters.now state.old }
     requires some { 1 ≤ found_limit }
 
-    // The answer: Done exactly with a complete tree, the populate limit exactly where so many points were found and a leaf is
-    // open, and the node limit only where nothing closes an open leaf and there is no room.
+    // The answer: Done exactly with a complete tree, the populate limit exactly where so many points were found and a
+    // leaf is open, and the node limit only where nothing closes an open leaf and there is no room.
     ensures ends { IfOk result (λ end.
         PopEnds state.old state.new gaps.now filters.now node_limit found_limit end) }
     ensures complete { IfOk result (λ end. (end ≡ PopEnd.Done) ↔ IsCompleteFor gaps.now filters.now state.new) }

@@ -1,4 +1,5 @@
-//! How replies are printed: their fixed parts, their lines, and the lines of the listed points. Nothing here takes memory.
+//! How replies are printed: their fixed parts, their lines, and the lines of the listed points. Nothing here takes
+//! memory.
 #![tactic(auto)]
 
 mod laws;

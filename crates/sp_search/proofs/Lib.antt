@@ -5,3 +5,4 @@ pub mod MeasureLemmas
 pub mod RunLemmas
 pub mod StartLemmas
 pub mod StayLemmas
+pub mod CursorLemmas

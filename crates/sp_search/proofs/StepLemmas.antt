@@ -284,3 +284,19 @@ past-told m lists place aim best b number None within formed is h = record { non
 past-told m lists place aim best b number (Some bound) within formed is h =
     let by = h.2 in
     record { known = rw by within; formed = rw by formed; number = rw by (sym is ∙ h.0); past = h.1 }
+
+-- the same of the empty list, which stands first
+pub zero-told : (m : ModelParts) (lists : List MultiplierList) (aim : Aim) (best : Option ℤ) (b : Bounds) (number : Option ℤ) (r : Option Bound)
+    → All (IsStated m) (stated_lists m) → IsPrefix (stated_lists m) lists → 0 < length lists → number ≡ Some (least_objective m b)
+    → MatchOption r ((v : ℤ) → number ≡ Some v → ¬ IsPast aim best v) (IsPastNumber number aim best 0)
+    → MatchOption r (¬ IsPast aim best (least_objective m b)) (λ bound. IsPastList m lists aim best b bound.by bound.least)
+zero-told m lists aim best b number None all front filled is h = h (least_objective m b) is
+zero-told m lists aim best b number (Some bound) all front filled is h =
+    let by = h.2 in
+    let there = stated-at m lists 0 front (some-stated m) zero_list in
+    record {
+      known = rw by filled;
+      formed = rw by (table-stated m lists 0 all front (some-stated m)).formed;
+      number = rw (by, ← there) (zero-number m b ∙ sym is ∙ h.0);
+      past = h.1;
+    }

@@ -1,5 +1,6 @@
 pub mod States
 pub mod Steps
 pub mod InnerSteps
+pub mod InnerAims
 pub mod Runs
 pub mod Measures

@@ -1,5 +1,5 @@
 -- What a state of a search is.
-use Rattle.std.specs.Prelude.{◌≡◌, ℕ, false, All, None, [], ◌∷◌, length}
+use Rattle.std.specs.Prelude.{◌≡◌, ℕ, false, All, Option, None, IfSome, [], ◌∷◌, length}
 use Rattle.sp_model.specs.declared.parts.ModelParts.{ModelParts}
 use Rattle.sp_model.specs.Models.{root_of}
 use Rattle.sp_model.specs.Rules.{IsLawful}
@@ -9,6 +9,8 @@ use Rattle.sp_filter.specs.Held.{FilterList}
 use Rattle.sp_tree.specs.Tables.{IsPrefix}
 use Rattle.sp_tree.specs.Trees.{open_node}
 use Rattle.sp_cover.specs.Cover.{IsCover, IsEnded, IsSearch, SearchOf}
+use Rattle.sp_cursor.specs.declared.cursors.Cursor.{Cursor}
+use Rattle.sp_cursor.specs.Cursors.{IsCursorOf}
 
 -- the model, the search of it, and how many stated lists stand first in the tree's table
 pub record StateOf : Type 0 where
@@ -27,6 +29,10 @@ pub record IsState (s : StateOf) : Type 0 where
   pub search : IsSearch s.model s.search
   pub ended : IsEnded s.search
   pub stated : AreStated s.model s.search s.stated
+
+-- a cursor, if it is one, is a cursor of the model in the tree of the state
+abbrev pub HasCursor : StateOf → Option Cursor → Type 0
+HasCursor s cursor = IfSome cursor (IsCursorOf s.model s.search.tree)
 
 -- the cover with the filters that are held
 abbrev pub IsCovered : FilterList → StateOf → Type 0

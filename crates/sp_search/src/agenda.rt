@@ -3,12 +3,13 @@
 ghost use Rattle.std.specs.Prelude.{◌↔◌, ◌<◌, length, IfNone, IfSome, IsTrue};
 ghost use Rattle.sp_cover.specs.Cover.{IsOpenAt, IsShut};
 
-use sp_model::{Model, VarId};
+use sp_cursor::{Cursor, price_of};
+use sp_model::VarId;
 use sp_tree::{Kind, NodeId, Tree};
 use std::alloc::Global;
 
-/// The leaves that come next, the last one first. It may name nodes that are no open leaves, and need not name all: a node is
-/// looked at before it is taken.
+/// The leaves that come next, the last one first. It may name nodes that are no open leaves, and need not name all: a
+/// node is looked at before it is taken.
 #[derive(Drop)]
 pub struct Agenda {
     nodes: Vec<NodeId>,
@@ -22,9 +23,9 @@ impl Agenda {
         }
     }
 
-    /// Puts the two parts of a split node on it: on top the one whose side of the variable costs less, and the part above
-    /// where both cost the same. What has no memory is left out.
-    pub fn add_parts(&mut self, model: &Model, tree: &Tree, node: NodeId)
+    /// Puts the two parts of a split node on it: on top the one whose side of the variable costs less, and the part
+    /// above where both cost the same. What has no memory is left out.
+    pub fn add_parts(&mut self, tree: &Tree, cursor: &Option<Cursor>, node: NodeId)
         requires { node < length tree.now.nodes }
     {
         match &tree.node(node).kind {
@@ -34,7 +35,7 @@ impl Agenda {
                 left,
                 right,
             } => {
-                if is_costly(model.parts().cost.as_slice(), *var) {
+                if rises_with(cursor, *var) {
                     self.add(*right);
                     self.add(*left);
                 } else {
@@ -65,19 +66,17 @@ impl Agenda {
     }
 }
 
-/// Whether the objective rises with the variable.
-fn is_costly(cost: &[(VarId, i128)], var: VarId) -> bool {
-    for term in cost {
-        if term.0 == var {
-            return term.1 > 0;
-        }
-    }
-    false
-}
-
 /// Whether the node is an open leaf of the tree.
 fn is_open(tree: &Tree, node: NodeId) -> bool
     ensures { IsTrue result ↔ IsOpenAt tree.now.nodes node }
 {
     node.place() < tree.size() && tree.node(node).is_open()
+}
+
+/// Whether the objective rises with a variable, as far as that is known at once: a hint.
+fn rises_with(cursor: &Option<Cursor>, var: VarId) -> bool {
+    match cursor {
+        Some(cursor) => 0 < price_of(&cursor.hand.objective, var),
+        None => false,
+    }
 }

@@ -15,14 +15,13 @@ ghost use Rattle.sp_bound.specs.StatedLists.{stated_lists};
 ghost use Rattle.sp_search.specs.Steps.{ClosesAs, IsFitFor, IsPastList, IsScreenFor, IsScreenOf, IsUnclosed, IsUnlisted, IsUnscreened, IsUnscreenedFor, aim_of};
 
 use crate::goals::Goal;
-use crate::hints::place_hint;
 use sp_activity::closed;
 use sp_bound::{Scratch, bound, bound_in, stated_lists_are_lists};
 use sp_cover::{Aim, Search, is_past};
+use sp_cursor::least_objective;
 use sp_dual::Multipliers;
 use sp_filter::{FilterId, Filters, fitting_filters_are_narrow, narrow_filters_stay_narrow};
-use sp_model::{BoxOf, Model, VarId, objective_is_small, root_is_short};
-use sp_sums::{rows_are_narrow_inside, span_over, sums_are_reached};
+use sp_model::{BoxOf, Model, VarId, root_is_short};
 use sp_tree::{Bound, Kind};
 
 /// The aim of a goal.
@@ -33,27 +32,6 @@ pub fn aim_of(goal: &Goal<'_>) -> Aim
         Goal::Improve => Aim::Improve,
         Goal::Collect { cut, filters: _ } => Aim::Collect { cut: *cut },
     }
-}
-
-/// The least objective over a box, whatever the rows say.
-fn least_objective(model: &Model, bounds: &BoxOf) -> i128
-    requires { IsInside (root_of model.now) bounds.now }
-    ensures { result ≡ least_objective model.now bounds.now }
-{
-    let parts = model.parts();
-    objective_is_small();
-    root_is_short();
-    rows_are_narrow_inside();
-    sums_are_reached();
-    let span = span_over(parts.cost.as_slice(), bounds);
-    sum_of(&parts.constant, &span.least)
-}
-
-fn sum_of(left: &i128, right: &i128) -> i128
-    requires { unsigned_abs (left.now +ℤ right.now) ≤ 10 ^ 36 }
-    ensures { result ≡ left.now +ℤ right.now }
-{
-    *left + *right
 }
 
 /// The number that a list gives over a box, if it gives one.
@@ -77,7 +55,12 @@ fn number_of(
 }
 
 /// The number of the list at a place, where there is one, as a bound, where it is past the aim.
-fn past_number(number: &Option<i128>, aim: &Aim, best: &Option<i128>, place: u32) -> Option<Bound>
+pub fn past_number(
+    number: &Option<i128>,
+    aim: &Aim,
+    best: &Option<i128>,
+    place: u32,
+) -> Option<Bound>
     ensures { MatchOption result
         ((v : ℤ) → number.now ≡ Some v → ¬ IsPast aim.now best.now v)
         (IsPastNumber number.now aim.now best.now place) }
@@ -98,7 +81,7 @@ fn past_number(number: &Option<i128>, aim: &Aim, best: &Option<i128>, place: u32
 }
 
 /// The number of the stated list at a place over the box, where it is past the aim.
-fn past_list(
+pub fn past_list(
     model: &Model,
     lists: &[Multipliers],
     place: u32,
@@ -122,7 +105,7 @@ fn past_list(
 }
 
 /// The first of the stated lists whose number over the box is past the aim.
-fn closing_list(
+pub fn closing_list(
     model: &Model,
     lists: &[Multipliers],
     stated: u32,
@@ -170,7 +153,7 @@ fn closing_filter(model: &Model, filters: &Filters, bounds: &BoxOf) -> Option<Fi
 }
 
 /// The held filter that closes the box, where the goal looks at filters.
-fn screen_of(model: &Model, goal: &Goal<'_>, bounds: &BoxOf) -> Option<FilterId>
+pub fn screen_of(model: &Model, goal: &Goal<'_>, bounds: &BoxOf) -> Option<FilterId>
     requires inside { IsInside (root_of model.now) bounds.now }
     requires fit { IsFitFor model.now goal.now }
     ensures { MatchOption result (IsUnscreenedFor goal.now bounds.now) (IsScreenFor goal.now bounds.now) }
@@ -238,7 +221,7 @@ fn wide_place(bounds: &BoxOf) -> Option<(VarId, i64)>
 }
 
 /// The place of a hint where the box can be split there, else another such place.
-fn hinted_place(hint: &Option<(VarId, i64)>, bounds: &BoxOf) -> Option<(VarId, i64)>
+pub fn hinted_place(hint: &Option<(VarId, i64)>, bounds: &BoxOf) -> Option<(VarId, i64)>
     requires { length bounds.now < 2 ^ 32 }
     ensures some { IfSome result (λ r. CanSplit bounds.now r.0 r.1) }
     ensures none { IfNone result ((j : ℕ) → ¬ CanSplit bounds.now j (range_at bounds.now j).0) }
@@ -252,19 +235,4 @@ fn hinted_place(hint: &Option<(VarId, i64)>, bounds: &BoxOf) -> Option<(VarId, i
         None => {}
     }
     wide_place(bounds)
-}
-
-/// A place where the box can be split, if it has more than one point.
-pub fn split_place(
-    model: &Model,
-    search: &Search,
-    goal: &Goal<'_>,
-    bounds: &BoxOf,
-) -> Option<(VarId, i64)>
-    requires { length bounds.now < 2 ^ 32 }
-    ensures some { IfSome result (λ r. CanSplit bounds.now r.0 r.1) }
-    ensures none { IfNone result ((j : ℕ) → ¬ CanSplit bounds.now j (range_at bounds.now j).0) }
-{
-    let hint = place_hint(model, &aim_of(goal), search.best(), bounds);
-    hinted_place(&hint, bounds)
 }

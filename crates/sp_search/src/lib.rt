@@ -4,7 +4,7 @@
 mod agenda;
 mod closers;
 mod goals;
-mod hints;
+mod kept_closers;
 mod optima;
 mod search_laws;
 #[cfg(test)]

@@ -1,11 +1,11 @@
 //! Phase one: steps to the proved optimum.
 
-ghost use Rattle.std.specs.Prelude.{◌≡◌, ◌≢◌, ◌≤◌, ℕ, true, Ok, IfOk};
+ghost use Rattle.std.specs.Prelude.{◌≡◌, ◌≢◌, ◌≤◌, ℕ, false, true, Ok, IfOk};
 ghost use Rattle.sp_model.specs.Boxes.{point_count, room};
 ghost use Rattle.sp_model.specs.Models.{root_of};
 ghost use Rattle.sp_filter.specs.Held.{FilterList};
 ghost use Rattle.sp_cover.specs.Cover.{IsShut};
-ghost use Rattle.sp_search.specs.States.{IsCovered, IsState};
+ghost use Rattle.sp_search.specs.States.{HasCursor, IsCovered, IsState};
 ghost use Rattle.sp_search.specs.Runs.{Ends, IsRun, KeepsShut};
 ghost use Rattle.sp_search.specs.declared.optima.OptEnd.TheVariants as OptEnd;
 
@@ -13,6 +13,7 @@ use crate::agenda::Agenda;
 use crate::goals::Goal;
 use crate::states::State;
 use crate::steps::step;
+use sp_cursor::Cursor;
 use sp_model::{NoMemory, split_divides_count};
 use sp_tree::extensions_last;
 
@@ -38,8 +39,37 @@ fn end_of(state: &State) -> OptEnd
     }
 }
 
-/// Takes open leaves until none is left. A state that is proved stays as it is. After an error the state is that of the last
-/// whole step.
+/// Takes open leaves until none is left, where phase one hasn't ended.
+fn improve(
+    state: &mut State,
+    cursor: &mut Option<Cursor>,
+    node_limit: u32,
+) -> Result<OptEnd, NoMemory>
+    requires open { state.old.search.proved ≡ false }
+    requires cursor { HasCursor state.old cursor.old }
+    ensures ends { IfOk result (λ end. Ends state.new node_limit end) }
+    ensures roomy { room (point_count (root_of state.old.model)) ≤ node_limit → result ≢ Ok OptEnd.NodeLimit }
+    ensures run { IsRun state.old state.new node_limit }
+    ensures kept { KeepsShut state.old.search.tree.nodes state.new.search.tree.nodes }
+    ensures covered { (fs : FilterList) → IsCovered fs state.old → IsCovered fs state.new }
+    ensures state { IsState state.new }
+{
+    extensions_last();
+    split_divides_count();
+    let _phase = state.proved();
+    let mut agenda = Agenda::new(state.alloc);
+    while let Some(node) = agenda.next(state.tree()) {
+        let stepped = step(state, cursor, node, &Goal::Improve, node_limit)?;
+        if stepped.is_full() {
+            return Ok(OptEnd::NodeLimit);
+        }
+        agenda.add_parts(state.tree(), cursor, node);
+    }
+    Ok(end_of(state))
+}
+
+/// Takes open leaves until none is left. A state that is proved stays as it is. After an error the state is that of the
+/// last whole step.
 pub fn optimize(state: &mut State, node_limit: u32) -> Result<OptEnd, NoMemory>
     // The answer: the optimum is the best value found, or no point is feasible, or the limit leaves no room.
     ensures ends { IfOk result (λ end. Ends state.new node_limit end) }
@@ -53,17 +83,9 @@ pub fn optimize(state: &mut State, node_limit: u32) -> Result<OptEnd, NoMemory>
     ensures state { IsState state.new }
 {
     extensions_last();
-    split_divides_count();
     if state.proved() {
         return Ok(end_of(state));
     }
-    let mut agenda = Agenda::new(state.alloc);
-    while let Some(node) = agenda.next(state.tree()) {
-        let stepped = step(state, node, &Goal::Improve, node_limit)?;
-        if stepped.is_full() {
-            return Ok(OptEnd::NodeLimit);
-        }
-        agenda.add_parts(state.model(), state.tree(), node);
-    }
-    Ok(end_of(state))
+    let mut cursor = state.cursor()?;
+    improve(state, &mut cursor, node_limit)
 }

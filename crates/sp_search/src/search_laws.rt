@@ -25,7 +25,8 @@ pub fn steps_fall()
     split_divides_count();
 }
 
-/// A law: a search has at most as many nodes as the model's closed box has room for, and no more found points than nodes.
+/// A law: a search has at most as many nodes as the model's closed box has room for, and no more found points than
+/// nodes.
 pub fn searches_are_small()
     ensures nodes { (s : StateOf) → IsState s
         → length s.search.tree.nodes ≤ room (point_count (root_of s.model)) }

@@ -17,8 +17,8 @@ use sp_model::{Model, NoMemory};
 use sp_tree::Keep;
 use std::alloc::Global;
 
-/// Keeps one more list, last in the table. One that is there already, or would make the table too heavy, is refused as if there
-/// were no memory: the stated lists all differ, and weigh 129 at most.
+/// Keeps one more list, last in the table. One that is there already, or would make the table too heavy, is refused as
+/// if there were no memory: the stated lists all differ, and weigh 129 at most.
 fn keep_one(search: &mut Search, list: Multipliers) -> Result<(), NoMemory>
     ensures lists { OnOk result (search.new.tree.lists ≡ search.old.tree.lists ++ list ∷ []) }
     ensures boxes { search.new.tree.boxes ≡ search.old.tree.boxes }

@@ -7,12 +7,13 @@ ghost use Rattle.sp_cover.specs.Cover.{IsBest};
 ghost use Rattle.sp_tree.specs.Laws.{Extends};
 ghost use Rattle.sp_tree.specs.Trees.{is_held, is_reopened};
 ghost use Rattle.sp_cover.specs.Moves.{moved_to, reopened_tree};
-ghost use Rattle.sp_search.specs.States.{IsCovered, IsState, first_search, with_search};
+ghost use Rattle.sp_search.specs.States.{HasCursor, IsCovered, IsState, first_search, with_search};
 ghost use Rattle.sp_search.specs.Runs.{IsFirstBest};
 
 use crate::starting::{begun, stated_count};
 use sp_bound::Scratch;
 use sp_cover::{Search, found_points_are_few};
+use sp_cursor::{Cursor, root_cursor};
 use sp_filter::Filters;
 use sp_list::Found;
 use sp_model::{Model as IntegerModel, NoMemory};
@@ -20,8 +21,8 @@ use sp_tree::Tree;
 use std::alloc::Global;
 use std::marker::Model;
 
-/// A search of a model, with the model. Contracts see the model, the search, and how many stated lists stand first in the
-/// tree's table.
+/// A search of a model, with the model. Contracts see the model, the search, and how many stated lists stand first in
+/// the tree's table.
 #[derive(Drop)]
 pub struct State {
     pub(crate) alloc: Global,
@@ -112,8 +113,19 @@ impl State {
         first_best(self.search.found(), self.search.best())
     }
 
-    /// Opens, after phase one, what the cut and the filters held no longer justify: the bounded leaves up to the cut, whose
-    /// bound becomes their mark, and the screened leaves whose filter isn't held. Answers how many. It takes no memory.
+    /// A cursor at the root of the tree, for a run of steps; none where the closed box of the model is empty. It takes
+    /// time and memory that grow with the terms of the model alone.
+    pub fn cursor(&self) -> Result<Option<Cursor>, NoMemory>
+        ensures cursor { IfOk result (λ cursor. HasCursor self.now cursor) }
+        ensures state { IsState self.now }
+    {
+        let _size = self.search.tree().size();
+        root_cursor(self.alloc, &self.model)
+    }
+
+    /// Opens, after phase one, what the cut and the filters held no longer justify: the bounded leaves up to the cut,
+    /// whose bound becomes their mark, and the screened leaves whose filter isn't held. Answers how many. It takes no
+    /// memory.
     pub fn reopen(&mut self, cut: i128, filters: &Filters) -> u32
         requires { self.old.search.proved ≡ true }
         ensures reopened { self.new ≡ with_search self.old

@@ -289,9 +289,9 @@ fn end_unread<K: Sink>(alloc: Global, why: WordsRefusal, sink: &mut K) -> Ending
 /// the gaps, and prints the reply to the sink. The source isn't read.
 ///
 /// The text that is printed, the journal and the status fit one another, whatever the words and whatever the shelf
-/// gives: `optimum` is the optimum, the solution lines are exactly the feasible points within both gaps of it, each once,
-/// best objective first and then in lexicographic order, and `nodelimit` comes only where the tree has no room for another
-/// split and the model's largest tree passes the limit.
+/// gives: `optimum` is the optimum, the solution lines are exactly the feasible points within both gaps of it, each
+/// once, best objective first and then in lexicographic order, and `nodelimit` comes only where the tree has no room
+/// for another split and the model's largest tree passes the limit.
 ///
 /// `NoMemory` comes in the middle of the text only from a sink that takes memory, and else before any text went out,
 /// while the words were read, the file was fetched or its model listed.

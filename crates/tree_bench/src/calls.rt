@@ -44,7 +44,8 @@ pub enum Answer {
     NoMemory,
 }
 
-/// A tree of one leaf over the box of the next numbers: how many variables, and the least and the greatest value of each.
+/// A tree of one leaf over the box of the next numbers: how many variables, and the least and the greatest value of
+/// each.
 pub fn tree_over(alloc: Global, words: &mut SplitWhitespace<'_>) -> Result<Tree, NoMemory> {
     let mut lower = Items::new(alloc);
     let mut upper = Items::new(alloc);

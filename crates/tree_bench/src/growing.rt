@@ -147,7 +147,8 @@ fn has_box(tree: &Tree, place: u32) -> bool {
     }
 }
 
-/// Asks for the box of a node, then of the one so many places behind it, and so on, so often. Answers how many there were.
+/// Asks for the box of a node, then of the one so many places behind it, and so on, so often. Answers how many there
+/// were.
 pub fn ask(tree: &Tree, first: u32, step: u32, rounds: u32) -> u32 {
     let mut count = 0u32;
     for round in 0..rounds {

@@ -110,7 +110,8 @@ fn many(alloc: Global, tree: &mut Tree, word: &str, words: &mut SplitWhitespace<
     }
 }
 
-/// Prints the tree: whether it is complete for the cut, how many nodes and lists it has, its first open leaf, and each node.
+/// Prints the tree: whether it is complete for the cut, how many nodes and lists it has, its first open leaf, and each
+/// node.
 fn show<W: Write>(out: &mut W, tree: &Tree, filters: &Filters, cut: i128) -> io::Result<()> {
     let complete = tree.is_complete(cut, filters);
     let (size, lists, first) = (tree.size(), tree.multipliers().len(), tree.open_leaf());

@@ -1,19 +1,20 @@
 use Rattle.std.proofs.Common.{ap}
 use Rattle.sp_tree.specs.Splits.{box_at}
 use Rattle.sp_cover.specs.Moves.{closed_as}
-use Rattle.sp_search.specs.Steps.{aim_of}
+use Rattle.sp_search.specs.Steps.{IsUnclosed, aim_of}
 use Rattle.sp_search.proofs.BoxLemmas.{single-from, unreasoned-filled}
 use Rattle.sp_search.proofs.StepLemmas.{closes-may, settled-same}
 use Rattle.sp_search.proofs.steps.advance.Goals as goal
 
 pub find_only-requires-clause-single : goal.find_only-requires-clause-single
 find_only-requires-clause-single c =
-    single-from c.args.bounds.now (unreasoned-filled c.args.model.now c.args.bounds.now c.in-None.ensures.unreasoned) c.in-None-split_place.ensures.none
+    let unclosed : IsUnclosed c.args.model.now c.args.search.now c.args.goal.now c.args.bounds.now = rw c.in-None.is at c.requires.kind in
+    single-from c.args.bounds.now (unreasoned-filled c.args.model.now c.args.bounds.now unclosed.unreasoned) c.in-None-hinted_place.ensures.none
 
 pub returns-in-Some-clause-done : goal.returns-in-Some-clause-done
 returns-in-Some-clause-done c =
     let s = c.args.search.now in
-    let closes = rw c.requires.ready.in_hand at c.in-Some.ensures in
+    let closes = rw (c.in-Some.is, c.requires.ready.in_hand) at c.requires.kind in
     record {
       steps = record {
         kind = c.in-Some.kind;

@@ -1,7 +1,7 @@
 use Rattle.std.proofs.Common.{◌≡◌, ap, ◌∙◌}
 use Rattle.sp_sums.specs.Extremes.{least_over}
-use Rattle.sp_search.proofs.ObjectiveLemmas.{SumLaws, cost-narrow, least-small}
-use Rattle.sp_search.proofs.closers.least_objective.Goals as goal
+use Rattle.sp_cursor.proofs.ObjectiveLemmas.{SumLaws, cost-narrow, least-small}
+use Rattle.sp_cursor.proofs.hands.least_objective.Goals as goal
 
 pub span_over-span-requires : goal.span_over-span-requires
 span_over-span-requires c =

@@ -1,0 +1,2 @@
+pub mod ObjectiveLemmas
+pub mod CursorLemmas

@@ -1,15 +1,16 @@
 #!/usr/bin/env python3
-"""Checks the trees of searches by means that share nothing with the search: random small models, open leaves taken in a random
-order, and for each run whether what the tree says is so.
+"""Checks the trees of searches by means that share nothing with the search: random small models, open leaves taken in
+a random order, and for each run whether what the tree says is so.
 
-usage: scripts/compare_search.py [MODELS [SEED]]        after search_bench was built, by 'rt run' in crates/search_bench
+usage: scripts/compare_search.py [MODELS [SEED]]      after search_bench was built, by 'rt run' in crates/search_bench
 
-Each model is searched in the usual order, in a random one with a cursor, and in a random one with each box from the tree.
-Checked of each run: the optimum, by a walk over all points, and that a run which stopped had no room. Checked of each tree:
-that the splits are lawful, so that the leaves' boxes divide the model's; that no split box has a reason; each leaf's claim (the
-first reason of its box, the exact number of its list, its point); that no node has a mark; that the table is that of the stated
-lists; that the found points are feasible, have their values, fall, and have one leaf each; and that where a run stopped an open
-leaf is left that nothing closes. Status 0 where there is no fault, else 1. It stands beside the gate, and builds nothing.
+Each model is searched in the usual order, in a random one with a cursor, and in a random one with each box from the
+tree. Checked of each run: the optimum, by a walk over all points, and that a run which stopped had no room. Checked of
+each tree: that the splits are lawful, so that the leaves' boxes divide the model's; that no split box has a reason;
+each leaf's claim (the first reason of its box, the exact number of its list, its point); that no node has a mark; that
+the table is that of the stated lists; that the found points are feasible, have their values, fall, and have one leaf
+each; and that where a run stopped an open leaf is left that nothing closes. Status 0 where there is no fault, else 1.
+It stands beside the gate, and builds nothing.
 """
 import itertools
 import os
@@ -36,7 +37,8 @@ END = re.compile(r"(\w+) best (None|Some\((-?\d+)\)) nodes (\d+)$")
 
 
 class Model:
-    """A minimised model: ranges, cores, cost, constant, rows (least side, greatest side, terms by variable), indicators, sets."""
+    """A minimised model: ranges, cores, cost, constant, rows (least side, greatest side, terms by variable), indicators
+    and sets."""
 
     def __init__(self, rng):
         self.rng = rng
@@ -49,13 +51,14 @@ class Model:
         self.constant = rng.choice([0, rng.randint(-20, 20)])
         self.rows = [self.row() for _ in range(rng.randint(0, 4))]
         switches = [j for j, (low, high) in enumerate(self.ranges) if 0 <= low and high <= 1]
-        many = rng.choice([0, 0, 2])
-        self.gates = [(rng.choice(switches), rng.randint(0, 1), self.row()) for _ in range(many if switches else 0)]
-        self.sets = [(rng.randint(1, 2), rng.sample(number, rng.randint(0, len(number)))) for _ in range(rng.choice([0, 0, 2]))]
+        gates, sets = rng.choice([0, 0, 2]), rng.choice([0, 0, 2])
+        self.gates = [(rng.choice(switches), rng.randint(0, 1), self.row()) for _ in range(gates if switches else 0)]
+        self.sets = [(rng.randint(1, 2), rng.sample(number, rng.randint(0, len(number)))) for _ in range(sets)]
         if rng.random() < 0.3:
             self.make_packing()
-        if rng.random() < 0.02:
-            self.ranges[rng.choice([j for j in number if j not in {core[0] for core in self.cores}] or [0])] = (1, 0)
+        without_core = [j for j in range(len(self.ranges)) if j not in {core[0] for core in self.cores}]
+        if without_core and rng.random() < 0.02:
+            self.ranges[rng.choice(without_core)] = (1, 0)
 
     def make_packing(self):
         """Binaries with gains, and rows of weights that half of them fit in."""
@@ -197,8 +200,13 @@ def reasons(model, box):
     return found
 
 
+def numbers(text):
+    return [int(word) for word in text.split(", ") if word]
+
+
 class Seen:
-    """What a run printed: its end, the best value, how many nodes; behind a random one marks, kinds, found points and lists."""
+    """What a run printed: its end, the best value, how many nodes; behind a random one marks, kinds, found points and
+    lists."""
 
     def __init__(self, text):
         lines = text.splitlines()
@@ -206,12 +214,12 @@ class Seen:
         assert ended, "no end"
         self.end, self.size = ended.group(1), int(ended.group(4))
         self.best = None if ended.group(3) is None else int(ended.group(3))
-        nodes = [m.groups() for m in map(NODE.match, lines[1:]) if m]
+        nodes, found, lists = ([m.groups() for m in map(form.match, lines[1:]) if m] for form in (NODE, FOUND, LIST))
         self.marks, self.kinds = [mark for mark, _ in nodes], [kind for _, kind in nodes]
-        self.found = [([int(v) for v in m.group(1).split(", ") if v], int(m.group(2))) for m in map(FOUND.match, lines[1:]) if m]
-        self.lists = [(int(m.group(1)), tuple((int(i), int(y)) for i, y in ENTRY.findall(m.group(2))))
-                      for m in map(LIST.match, lines[1:]) if m]
-        assert 1 + len(nodes) + len(self.found) + len(self.lists) == len(lines), "a line that is none of these"
+        self.found = [(numbers(point), int(value)) for point, value in found]
+        self.lists = [(int(divisor), tuple((int(i), int(y)) for i, y in ENTRY.findall(entries)))
+                      for divisor, entries in lists]
+        assert 1 + len(nodes) + len(found) + len(lists) == len(lines), "a line that is none of these"
 
 
 def check_leaf(model, box, kind, seen):
@@ -273,7 +281,7 @@ def check(model, optimum, order, limit, text):
     still_open = check_tree(model, seen) if order else None
     if seen.end == "NodeLimit":
         assert seen.size + 2 > limit, "a stop with room"
-        assert still_open is None or any(is_stuck(model, box, seen) for box in still_open), "a stop without an open leaf that stays"
+        assert still_open is None or any(is_stuck(model, box, seen) for box in still_open), "a stop without a cause"
     else:
         assert not still_open, "an end with an open leaf"
         assert seen.best == optimum, "another optimum"
@@ -318,4 +326,5 @@ def main():
     sys.exit(faults != 0)
 
 
-main()
+if __name__ == "__main__":
+    main()

@@ -1,9 +1,9 @@
-//! The numbers of a text, and the task that its first ones say. A number that is missing is read as 0.
+//! The words and numbers of a text, and the task that its first ones say. A number that is missing is read as 0.
 
 use std::str::SplitWhitespace;
 
 /// In which order open leaves are taken, and where their boxes come from.
-#[derive(Clone, Copy, PartialEq, Eq, Debug)]
+#[derive(Clone, Copy)]
 pub enum Order {
     /// That of a run to the optimum.
     Usual,
@@ -14,7 +14,7 @@ pub enum Order {
 }
 
 /// How a model is searched.
-#[derive(Clone, Copy, Debug)]
+#[derive(Clone, Copy)]
 pub struct Task {
     /// The order of the open leaves.
     pub order: Order,
@@ -22,6 +22,48 @@ pub struct Task {
     pub limit: u32,
     /// Where the random numbers begin.
     pub seed: u32,
+}
+
+/// What a line is about.
+#[derive(Clone, Copy)]
+pub enum Kind {
+    /// A variable's bounds.
+    Var,
+    /// The constant of the objective.
+    Constant,
+    /// The costs.
+    Cost,
+    /// A row.
+    Row,
+    /// An indicator.
+    Gate,
+    /// A special ordered set.
+    Set,
+    /// What a semi-integer variable may be beside 0.
+    Core,
+    /// Nothing that is known.
+    Other,
+}
+
+/// What the next word names.
+pub fn next_kind(words: &mut SplitWhitespace<'_>) -> Kind {
+    match words.next() {
+        None => Kind::Other,
+        Some(word) => kind_of(word),
+    }
+}
+
+fn kind_of(word: &str) -> Kind {
+    match word {
+        "var" => Kind::Var,
+        "constant" => Kind::Constant,
+        "cost" => Kind::Cost,
+        "row" => Kind::Row,
+        "gate" => Kind::Gate,
+        "set" => Kind::Set,
+        "core" => Kind::Core,
+        _ => Kind::Other,
+    }
 }
 
 /// The next number.

@@ -1,14 +1,15 @@
 //! The model that lines list.
 
-use crate::inputs::{number, small};
+use crate::inputs::{Kind, next_kind, number, small};
 use sp_model::{Indicator, Items, Model, ModelParts, NoMemory, Row, Sos, SosKind, VarId};
 use std::alloc::Global;
 use std::str::SplitWhitespace;
 
-/// The minimised model of the lines `var LOWER UPPER`, `constant NUMBER`, `cost COUNT VARIABLE NUMBER ..`, `row SIDES TERMS`,
-/// `gate VARIABLE ON SIDES TERMS`, `set KIND COUNT VARIABLES` and `core VARIABLE LOWER UPPER`; other lines are left to others.
-/// SIDES are four numbers: whether there is a least side, that side, and the same for the greatest. TERMS are how many there
-/// are, and a variable and its coefficient for each. `None` where they are no model, or there is no memory.
+/// The minimised model of the lines `var LOWER UPPER`, `constant NUMBER`, `cost COUNT VARIABLE NUMBER ..`,
+/// `row SIDES TERMS`, `gate VARIABLE ON SIDES TERMS`, `set KIND COUNT VARIABLES` and `core VARIABLE LOWER UPPER`; other
+/// lines are left to others. SIDES are four numbers: whether there is a least side, that side, and the same for the
+/// greatest. TERMS are how many there are, and a variable and its coefficient for each. `None` where they are no model,
+/// or there is no memory.
 pub fn model_of(alloc: Global, text: &str) -> Option<Model> {
     let mut parts = ModelParts {
         maximize: false,
@@ -37,15 +38,15 @@ fn add_lines(alloc: Global, parts: &mut ModelParts, text: &str) -> Result<(), No
 
 fn add_line(alloc: Global, parts: &mut ModelParts, line: &str) -> Result<(), NoMemory> {
     let mut words = line.split_whitespace();
-    match words.next() {
-        Some("var") => add_variable(&mut parts.lower, &mut parts.upper, &mut words),
-        Some("constant") => set_constant(&mut parts.constant, &mut words),
-        Some("cost") => add_terms(&mut parts.cost, &mut words),
-        Some("row") => add_row(alloc, &mut parts.rows, &mut words),
-        Some("gate") => add_gate(alloc, &mut parts.indicators, &mut words),
-        Some("set") => add_set(alloc, &mut parts.sos, &mut words),
-        Some("core") => add_core(&mut parts.semi, &mut words),
-        _ => Ok(()),
+    match next_kind(&mut words) {
+        Kind::Var => add_variable(&mut parts.lower, &mut parts.upper, &mut words),
+        Kind::Constant => set_constant(&mut parts.constant, &mut words),
+        Kind::Cost => add_terms(&mut parts.cost, &mut words),
+        Kind::Row => add_row(alloc, &mut parts.rows, &mut words),
+        Kind::Gate => add_gate(alloc, &mut parts.indicators, &mut words),
+        Kind::Set => add_set(alloc, &mut parts.sos, &mut words),
+        Kind::Core => add_core(&mut parts.semi, &mut words),
+        Kind::Other => Ok(()),
     }
 }
 

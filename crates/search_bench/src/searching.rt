@@ -1,6 +1,6 @@
 //! Searches, with the open leaves in the usual order or in a random one.
 
-ghost use Rattle.std.specs.Prelude.{IfSome};
+ghost use Rattle.std.specs.Prelude.{IfOk, IfSome};
 ghost use Rattle.sp_cover.specs.Cover.{IsOpenAt};
 ghost use Rattle.sp_search.specs.States.{HasCursor};
 
@@ -79,13 +79,19 @@ fn end_of(state: &State) -> OptEnd {
     }
 }
 
-fn search_by_cursor(state: &mut State, task: &Task) -> Result<(), NoMemory> {
-    let mut cursor = state.cursor()?;
-    take_steps(state, &mut cursor, task)
+/// The cursor that the task asks for: none where boxes come from the tree.
+fn first_cursor(state: &State, task: &Task) -> Result<Option<Cursor>, NoMemory>
+    ensures { IfOk result (λ cursor. HasCursor state.now cursor) }
+{
+    match task.order {
+        Order::ByCursor => state.cursor(),
+        _ => Ok(None),
+    }
 }
 
-fn search_from_tree(state: &mut State, task: &Task) -> Result<(), NoMemory> {
-    let mut cursor = None;
+/// Owns the cursor of the steps.
+fn search_at_random(state: &mut State, task: &Task) -> Result<(), NoMemory> {
+    let mut cursor = first_cursor(state, task)?;
     take_steps(state, &mut cursor, task)
 }
 
@@ -93,8 +99,7 @@ fn search_from_tree(state: &mut State, task: &Task) -> Result<(), NoMemory> {
 pub fn search(state: &mut State, task: &Task) -> Result<OptEnd, NoMemory> {
     match task.order {
         Order::Usual => return optimize(state, task.limit),
-        Order::ByCursor => search_by_cursor(state, task)?,
-        Order::FromTree => search_from_tree(state, task)?,
+        _ => search_at_random(state, task)?,
     }
     Ok(end_of(state))
 }

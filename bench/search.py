@@ -12,7 +12,7 @@ from families import Binary, assignment, demo, halves, queens
 from tables import built, machine, peak, put, seconds_and_text
 
 LIMIT = 2_000_000
-RUNS = 10
+RUNS = 100
 LEAST = 0.001
 
 

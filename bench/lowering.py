@@ -15,6 +15,7 @@ from tables import built, machine, peak, put
 SEED = 29
 VARIABLES = 2_000
 ROUNDS = (10, 110)
+CHAIN = 32
 NAME_BYTES = 60_000_000
 
 
@@ -44,10 +45,34 @@ def write_draft(path, terms, of_a_row, bound, decimals):
     path.write_text("\n".join(lines) + "\nend\n")
 
 
-def lowered(program, given, runs=3):
+def write_chain(path, keeps_open):
+    """Writes a draft of 200,000 terms in 10,000 rows, whose first 32 rows close the upper bounds of 32 variables, one a round.
+    The others have no such variable, or all of them the one that is closed last, in a row that closes nothing."""
+    draw = random.Random(SEED)
+    closed = range(CHAIN, VARIABLES)
+    lines = ["var int 0 -"] * CHAIN + ["var int 0 10"] * (VARIABLES - CHAIN)
+    for last in reversed(range(CHAIN)):
+        whole = f"row le 0 {last} 1 {last - 1} -1 " if last else "row le 5 0 1 "
+        lines.append(whole + " ".join(f"{var} 1" for var in draw.sample(closed, 18 if last else 19)))
+    for _ in range(10_000 - CHAIN):
+        terms = " ".join(f"{var} {draw.randrange(1, 100)}" for var in draw.sample(closed, 19 if keeps_open else 20))
+        lines.append(f"row ge 1 {CHAIN - 1} 1 {terms}" if keeps_open else f"row le 1000 {terms}")
+    path.write_text("\n".join(lines) + "\nend\n")
+
+
+def lowered(program, given, runs=3, rounds=ROUNDS):
     """Seconds to lower the draft once: the difference between runs of two numbers of rounds."""
-    few, many = (least(program, ["rounds", str(rounds)], given, runs)[0] for rounds in ROUNDS)
-    return (many - few) / (ROUNDS[1] - ROUNDS[0])
+    few, many = (least(program, ["rounds", str(count)], given, runs)[0] for count in rounds)
+    return (many - few) / (rounds[1] - rounds[0])
+
+
+def chain_table(program, file):
+    """The lines of the table of bounds that rows close one a round."""
+    table = []
+    for keeps_open, others in ((False, "no open variable"), (True, "the variable that is closed last, and close nothing")):
+        write_chain(file, keeps_open)
+        table.append(f"| {others} | {lowered(program, file, rounds=(2, 12)):.2f} |")
+    return table
 
 
 def write_names(path, length, distinct):
@@ -93,6 +118,7 @@ def main():
     with tempfile.TemporaryDirectory() as folder:
         file = pathlib.Path(folder) / "given"
         drafts, times, peaks = draft_table(program, file)
+        chains = chain_table(program, file)
         names = name_table(program, file)
     of_a_term = (peaks[1] - peaks[0]) * 1024 / 100_000
     text = f"""## Lowering a draft
@@ -108,6 +134,12 @@ process that reads the draft from text and lowers it once, as `/usr/bin/time` te
 Twice the terms take {times[1] / times[0]:.1f} times as long: the time grows with the written terms, but for the sort of
 each row's terms. A written term takes {of_a_term:.0f} bytes at that peak: its text, 48 in the draft, 32 in the model, and
 lists that grow by doubling.
+
+A chain of 32 variables without upper bounds, which 32 rows close in 32 rounds, in 10,000 rows of 20 terms:
+
+| The other rows have | Seconds |
+|---|---|
+""" + "\n".join(chains) + """
 
 A line of 60 MB, whose fields are added to a list of names one after another (`Names::add`):
 

@@ -20,13 +20,17 @@ pub struct Look {
     pub last: Option<VarId>,
     /// A number that changes from step to step.
     pub turn: u32,
+    /// A place one of whose sides a list may close that was found for a box around this one.
+    pub forced: Option<(VarId, i64)>,
+    /// A place by a point that was found for such a box.
+    pub wanted: Option<(VarId, i64)>,
 }
 
-/// Where to split the box in hand. First a place one of whose sides a row closes at once, then one of which the least
-/// objective closes a side, then one of which the nearest stated list does. Then, in the row with the fewest free
-/// variables of those that some point of the box breaks, the variable that moves the objective most, at its better end.
-/// Then the variable of the objective that does. It takes a time that doesn't grow with the model where columns are
-/// short.
+/// Where to split the box in hand. First a place one of whose sides a row closes at once, then one of which a list that
+/// was found closes a side, then one of which the least objective does, then one of which the nearest stated list does.
+/// Then the place by the point that was found. Then, in the row with the fewest free variables of those that some point
+/// of the box breaks, the variable that moves the objective most, at its better end. Then the variable of the objective
+/// that does. It takes a time that doesn't grow with the model where columns are short.
 pub fn place_hint(
     model: &Model,
     aim: &Aim,
@@ -39,9 +43,27 @@ pub fn place_hint(
         Some(place) => return Some(place),
         None => {}
     }
+    match usable(&look.wanted, bounds) {
+        Some(place) => return Some(place),
+        None => {}
+    }
     match place_in_rows(&hand.truths.rows, &hand.objective, bounds, look) {
         Some(place) => Some(place),
         None => dearest(model.parts().cost.as_slice(), &hand.objective, bounds, look),
+    }
+}
+
+/// The place, where the box can be split there.
+fn usable(place: &Option<(VarId, i64)>, bounds: &BoxOf) -> Option<(VarId, i64)> {
+    match place {
+        Some(place) => {
+            if bounds.can_split(place.0, place.1) {
+                Some(*place)
+            } else {
+                None
+            }
+        }
+        None => None,
     }
 }
 
@@ -55,6 +77,10 @@ fn forced_place_of(
 ) -> Option<(VarId, i64)> {
     let bounds = hand.truths.bounds();
     match forced_by_rows(&hand.truths.rows, bounds, look) {
+        Some(place) => return Some(place),
+        None => {}
+    }
+    match usable(&look.forced, bounds) {
         Some(place) => return Some(place),
         None => {}
     }
@@ -265,7 +291,7 @@ fn forced_by_rows(sums: &Sums, bounds: &BoxOf, look: &Look) -> Option<(VarId, i6
 }
 
 /// The greatest objective that is still wanted.
-fn most_wanted(aim: &Aim, best: &Option<i128>) -> Option<i128> {
+pub fn most_wanted(aim: &Aim, best: &Option<i128>) -> Option<i128> {
     match aim {
         Aim::Collect { cut } => Some(*cut),
         Aim::Improve => match best {

@@ -10,4 +10,4 @@ mod hints;
 pub use cursor_laws::cursors_last;
 pub use cursors::{Back, Cursor, root_cursor};
 pub use hands::{Hand, least_objective};
-pub use hints::{Look, place_hint, price_of};
+pub use hints::{Look, most_wanted, place_hint, price_of};

@@ -13,6 +13,7 @@ ghost use Rattle.sp_populate.specs.declared.populating.PopEnd.TheVariants as Pop
 
 use crate::cuts::present_cut;
 use crate::leaves::next_leaf;
+use sp_advice::NO_HINTS;
 use sp_cover::found_points_are_few;
 use sp_cursor::Cursor;
 use sp_filter::Filters;
@@ -63,7 +64,7 @@ fn take_leaves(
             return Ok(PopEnd::PopulateLimit);
         }
         let goal = Goal::Collect { cut: *cut, filters };
-        let stepped = step(state, cursor, node, &goal, node_limit)?;
+        let stepped = step(state, cursor, &NO_HINTS, node, &goal, node_limit)?;
         if stepped.is_full() {
             return Ok(PopEnd::NodeLimit);
         }

@@ -6,3 +6,4 @@ pub mod RunLemmas
 pub mod StartLemmas
 pub mod StayLemmas
 pub mod CursorLemmas
+pub mod PreparedLemmas

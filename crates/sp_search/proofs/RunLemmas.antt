@@ -96,7 +96,7 @@ joined-found a b c h k = record { more = h.more ++ k.more; grows = k.grows ∙ a
 found-of : (s t : SearchOf) → s ≡ t → s.found ≡ t.found
 found-of s t e = ap (λ r. r.found) e
 
-same-from : (a b : List Found) → b ≡ a → IsFoundLater a b
+pub same-from : (a b : List Found) → b ≡ a → IsFoundLater a b
 same-from a b e = rw e (same-found a)
 
 step-found : (m : ModelParts) (old new : SearchOf) (node limit : ℕ) (stepped : Stepped) → IsSearch m old → Steps m old new Improve node limit stepped → IsFoundLater old.found new.found

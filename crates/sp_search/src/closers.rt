@@ -35,7 +35,7 @@ pub fn aim_of(goal: &Goal<'_>) -> Aim
 }
 
 /// The number that a list gives over a box, if it gives one.
-fn number_of(
+pub fn number_of(
     model: &Model,
     bounds: &BoxOf,
     list: &Multipliers,

@@ -11,9 +11,11 @@ ghost use Rattle.sp_search.specs.declared.optima.OptEnd.TheVariants as OptEnd;
 
 use crate::agenda::Agenda;
 use crate::goals::Goal;
+use crate::preparing::prepare;
 use crate::states::State;
 use crate::steps::step;
-use sp_cursor::Cursor;
+use sp_advice::Advice;
+use sp_cursor::{Cursor, cursors_last};
 use sp_model::{NoMemory, split_divides_count};
 use sp_tree::extensions_last;
 
@@ -43,6 +45,7 @@ fn end_of(state: &State) -> OptEnd
 fn improve(
     state: &mut State,
     cursor: &mut Option<Cursor>,
+    advice: &mut Advice,
     node_limit: u32,
 ) -> Result<OptEnd, NoMemory>
     requires open { state.old.search.proved ≡ false }
@@ -56,14 +59,18 @@ fn improve(
 {
     extensions_last();
     split_divides_count();
+    cursors_last();
     let _phase = state.proved();
     let mut agenda = Agenda::new(state.alloc);
     while let Some(node) = agenda.next(state.tree()) {
-        let stepped = step(state, cursor, node, &Goal::Improve, node_limit)?;
+        let pivots = agenda.pivots(state);
+        prepare(state, advice, node, &Goal::Improve, pivots);
+        let hints = advice.hints(node.place());
+        let stepped = step(state, cursor, &hints, node, &Goal::Improve, node_limit)?;
         if stepped.is_full() {
             return Ok(OptEnd::NodeLimit);
         }
-        agenda.add_parts(state.tree(), cursor, node);
+        agenda.add_parts(state, cursor, advice, node);
     }
     Ok(end_of(state))
 }
@@ -87,5 +94,6 @@ pub fn optimize(state: &mut State, node_limit: u32) -> Result<OptEnd, NoMemory>
         return Ok(end_of(state));
     }
     let mut cursor = state.cursor()?;
-    improve(state, &mut cursor, node_limit)
+    let mut advice = state.advice();
+    improve(state, &mut cursor, &mut advice, node_limit)
 }

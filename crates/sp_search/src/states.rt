@@ -11,6 +11,7 @@ ghost use Rattle.sp_search.specs.States.{HasCursor, IsCovered, IsState, first_se
 ghost use Rattle.sp_search.specs.Runs.{IsFirstBest};
 
 use crate::starting::{begun, stated_count};
+use sp_advice::Advice;
 use sp_bound::Scratch;
 use sp_cover::{Search, found_points_are_few};
 use sp_cursor::{Cursor, root_cursor};
@@ -121,6 +122,12 @@ impl State {
     {
         let _size = self.search.tree().size();
         root_cursor(self.alloc, &self.model)
+    }
+
+    /// No hints yet, for a run of steps: without memory for a finder, for a model of one row and for a large one there
+    /// are never any.
+    pub fn advice(&self) -> Advice {
+        Advice::new(self.alloc, &self.model)
     }
 
     /// Opens, after phase one, what the cut and the filters held no longer justify: the bounded leaves up to the cut,

@@ -14,11 +14,13 @@ ghost use Rattle.sp_search.specs.InnerSteps.{AreSingle, IsDone, IsOnly, IsReady,
 ghost use Rattle.sp_search.specs.States.{HasCursor, IsCovered, IsState, with_search};
 ghost use Rattle.sp_search.specs.Steps.{AreGoalFilters, ClosesAs, FitsGoal, IsUnclosed, Steps};
 
+use crate::advised::kind_or_hinted;
 use crate::closers::{aim_of, closing_kind, hinted_place};
 use crate::goals::{Goal, Stepped};
 use crate::kept_closers::{aim_at, kept_kind};
 use crate::states::State;
 use sp_activity::open_points_are_feasible;
+use sp_advice::Hints;
 use sp_bound::Scratch;
 use sp_cover::{Aim, Search, found_points_are_few};
 use sp_cursor::{Cursor, Look, cursors_last, place_hint};
@@ -176,6 +178,7 @@ fn hint_of(
     best: &Option<i128>,
     cursor: &Cursor,
     kind: &Option<Kind>,
+    hints: &Hints,
 ) -> Option<(VarId, i64)> {
     match kind {
         Some(_) => None,
@@ -184,8 +187,13 @@ fn hint_of(
                 Some(back) => Some(back.var),
                 None => None,
             };
-            let turn = cursor.node.place();
-            place_hint(model, aim, best, &cursor.hand, &Look { last, turn })
+            let look = Look {
+                last,
+                turn: cursor.node.place(),
+                forced: hints.forced,
+                wanted: hints.wanted,
+            };
+            place_hint(model, aim, best, &cursor.hand, &look)
         }
     }
 }
@@ -198,6 +206,7 @@ fn work_in_hand(
     stated: u32,
     cursor: &mut Cursor,
     scratch: &mut Scratch,
+    hints: &Hints,
     node: NodeId,
     goal: &Goal<'_>,
     node_limit: u32,
@@ -220,9 +229,10 @@ fn work_in_hand(
     let kind = kept_kind(
         model, search, stated, goal, &aim, bounds, hand, is_aimed, scratch,
     );
-    let hint = hint_of(model, &aim, search.best(), cursor, &kind);
+    let closing = kind_or_hinted(model, search, goal, bounds, kind, &hints.closing, scratch);
+    let hint = hint_of(model, &aim, search.best(), cursor, &closing, hints);
     advance(
-        alloc, model, search, stated, bounds, kind, &hint, node, goal, node_limit,
+        alloc, model, search, stated, bounds, closing, &hint, node, goal, node_limit,
     )
 }
 
@@ -234,6 +244,7 @@ fn work_by(
     stated: u32,
     cursor: &mut Option<Cursor>,
     scratch: &mut Scratch,
+    hints: &Hints,
     node: NodeId,
     goal: &Goal<'_>,
     node_limit: u32,
@@ -254,7 +265,7 @@ fn work_by(
         Some(cursor) => {
             cursor.go(model, search.tree(), node)?;
             work_in_hand(
-                alloc, model, search, stated, cursor, scratch, node, goal, node_limit,
+                alloc, model, search, stated, cursor, scratch, hints, node, goal, node_limit,
             )
         }
     }
@@ -268,6 +279,7 @@ fn work(
     stated: u32,
     cursor: &mut Option<Cursor>,
     scratch: &mut Scratch,
+    hints: &Hints,
     node: NodeId,
     goal: &Goal<'_>,
     node_limit: u32,
@@ -283,7 +295,7 @@ fn work(
 {
     cursors_last();
     let stepped = work_by(
-        alloc, model, search, stated, cursor, scratch, node, goal, node_limit,
+        alloc, model, search, stated, cursor, scratch, hints, node, goal, node_limit,
     )?;
     search.settle();
     Ok(stepped)
@@ -291,10 +303,12 @@ fn work(
 
 /// Works on an open leaf: closes it, finds its one point, or splits it. Where phase one goes on and no leaf is open any
 /// more, it ends. With a cursor, which goes to the leaf, it looks only at what has the variables split on the way;
-/// without one the box comes from the tree. After `Full` or an error the state is as before.
+/// without one the box comes from the tree. A hint names a list that may close the box, and places to split it: each is
+/// tested first. After `Full` or an error the state is as before.
 pub fn step(
     state: &mut State,
     cursor: &mut Option<Cursor>,
+    hints: &Hints,
     node: NodeId,
     goal: &Goal<'_>,
     node_limit: u32,
@@ -326,6 +340,7 @@ pub fn step(
         state.stated,
         cursor,
         &mut state.scratch,
+        hints,
         node,
         goal,
         node_limit,

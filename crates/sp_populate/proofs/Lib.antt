@@ -3,6 +3,7 @@ pub mod SettledLemmas
 pub mod StayLemmas
 pub mod KeepLemmas
 pub mod CollectLemmas
+pub mod PreparedLemmas
 pub mod ReopenLemmas
 pub mod PhaseLemmas
 pub mod EndLemmas

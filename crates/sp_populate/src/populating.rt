@@ -13,12 +13,14 @@ ghost use Rattle.sp_populate.specs.declared.populating.PopEnd.TheVariants as Pop
 
 use crate::cuts::present_cut;
 use crate::leaves::next_leaf;
-use sp_advice::NO_HINTS;
+use sp_advice::Advice;
 use sp_cover::found_points_are_few;
-use sp_cursor::Cursor;
+use sp_cursor::{Cursor, cursors_last};
 use sp_filter::Filters;
 use sp_model::{Gaps, NoMemory, split_divides_count};
-use sp_search::{Goal, State, Stepped, optimize, searches_are_small, step, steps_fall};
+use sp_search::{
+    Goal, PIVOTS, State, Stepped, optimize, prepare, searches_are_small, step, steps_fall,
+};
 use sp_tree::{NodeId, extensions_last, reopening_spares_licensed};
 
 /// How a run that collects ended.
@@ -36,6 +38,7 @@ pub enum PopEnd {
 fn take_leaves(
     state: &mut State,
     cursor: &mut Option<Cursor>,
+    advice: &mut Advice,
     cut: &i128,
     filters: &Filters,
     node_limit: u32,
@@ -55,6 +58,7 @@ fn take_leaves(
 {
     extensions_last();
     steps_fall();
+    cursors_last();
     let _phase = state.proved();
     let mut left = found_limit;
     let mut last = NodeId::new(0);
@@ -64,7 +68,9 @@ fn take_leaves(
             return Ok(PopEnd::PopulateLimit);
         }
         let goal = Goal::Collect { cut: *cut, filters };
-        let stepped = step(state, cursor, &NO_HINTS, node, &goal, node_limit)?;
+        prepare(state, advice, node, &goal, PIVOTS);
+        let hints = advice.hints(node.place());
+        let stepped = step(state, cursor, &hints, node, &goal, node_limit)?;
         if stepped.is_full() {
             return Ok(PopEnd::NodeLimit);
         }
@@ -74,7 +80,7 @@ fn take_leaves(
     Ok(PopEnd::Done)
 }
 
-/// The same with a cursor of its own, which takes no time that grows with the tree.
+/// The same with a cursor and hints of its own, which take no time that grows with the tree.
 pub fn work_off(
     state: &mut State,
     cut: &i128,
@@ -95,7 +101,16 @@ pub fn work_off(
 {
     extensions_last();
     let mut cursor = state.cursor()?;
-    take_leaves(state, &mut cursor, cut, filters, node_limit, found_limit)
+    let mut advice = state.advice();
+    take_leaves(
+        state,
+        &mut cursor,
+        &mut advice,
+        cut,
+        filters,
+        node_limit,
+        found_limit,
+    )
 }
 
 /// How many points a step found.

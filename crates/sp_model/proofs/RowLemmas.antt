@@ -1,7 +1,8 @@
 -- One row of a round: the tails of its last terms, and its variables one after another.
-use Rattle.std.proofs.Common.{◌≡◌, ◌≢◌, ℕ, suc, ◌+◌, ◌-◌, ◌<◌, ◌≤◌, Bool, true, false, ◌&&◌, leb, cond, List, [], ◌∷◌, ◌++◌, All, length, get_or, set, drop, map, fold, Option, None, Some, is_none, IsSome, option_map, ℤ, pos, int_lt, refl, sym, ap, ap₂, ◌∙◌, subst, inl, inr, add-one, arith}
+use Rattle.std.proofs.Common.{◌≡◌, ◌≢◌, ℕ, suc, ◌+◌, ◌-◌, ◌<◌, ◌≤◌, Bool, true, false, ◌&&◌, leb, cond, List, [], ◌∷◌, ◌++◌, All, length, get_or, set, drop, map, fold, Option, None, Some, is_none, IsSome, option_map, ℤ, pos, int_lt, refl, sym, ap, ap₂, ◌∙◌, subst, ◌⊎◌, inl, inr, add-one, arith}
 use Rattle.std.specs.Int.{from_bool}
 use Rattle.std.specs.Int.RustNames.{unsigned_abs}
+use Rattle.std.proofs.lemmas.Int.{ints}
 use Rattle.std.proofs.lemmas.Bool.{and_parts, cases_lt, cases_eq, leb-true}
 use Rattle.std.proofs.lemmas.List.{drop_all, get_or_push, get_or_append_left, length_push, get_or-set_other, length-set, set-get_or, map-append, append_assoc}
 use Rattle.std.proofs.lemmas.List.Elements.{All-cons, All-head, All-nil, All-tail}
@@ -10,7 +11,7 @@ use Rattle.sp_model.specs.declared.ends.Ends.{Ends}
 use Rattle.sp_model.specs.declared.parts.Row.{Row}
 use Rattle.sp_model.specs.declared.tails.Tail.{Tail}
 use Rattle.sp_model.specs.declared.tails.Tails.{Tails}
-use Rattle.sp_model.specs.InnerRounds.{joined, IsTail, AreTailsOf, AreTails, no_tails, missing, lack, IsIdle, stuck, full}
+use Rattle.sp_model.specs.InnerRounds.{joined, IsTail, AreTailsOf, AreTails, no_tails, missing, missing_both, lack, IsIdle, IsSideIdle, stuck, full, blocked}
 use Rattle.sp_model.specs.Limits.{greatest_width}
 use Rattle.sp_model.specs.Rounds.{terms_rise, coefficient_size, takes_part, least_end, greatest_end, times, plus, minus, at_ends, sum_at_ends, hi_upper, hi_lower, lo_lower, lo_upper, closed_by, after_rules, close_variable, close_along, close_row, floor_of, ceiling_of}
 use Rattle.sp_model.specs.Stated.{OpenRange, OpenBounds, IsClosedRange, open_at}
@@ -203,25 +204,6 @@ variable_still semi row b t others e = write_case (semi t.0)
     write_case true = refl
     write_case false = write_same b t.0 _ e
 
--- ---- where no bound is missing
-
-closed_stays : (row : Row) (a : ℤ) (r : OpenRange) (least greatest : Option ℤ) → IsClosedRange r → after_rules row a r least greatest ≡ r
-closed_stays row a r least greatest h =
-    same_range (after_rules row a r least greatest) r
-    (closed_there r.0 (hi_lower row.hi a least) (lo_lower row.lo a greatest) (there r.0 h.lower))
-    (closed_there r.1 (hi_upper row.hi a least) (lo_upper row.lo a greatest) (there r.1 h.upper))
-  where
-    there : (o : Option ℤ) → IsSome o → is_none o ≡ false
-    there None e = cc
-    there (Some v) e = refl
-
-full_still : (semi : ℕ → Bool) (row : Row) (b : OpenBounds) (before after : List Term) → All (λ t. IsClosedRange (open_at b t.0)) after → close_along semi row b before after ≡ b
-full_still semi row b before [] h = refl
-full_still semi row b before (t ∷ ts) h =
-    let here : IsClosedRange (open_at b t.0) = All-head (λ (u : Term). IsClosedRange (open_at b u.0)) t ts h in
-    let e = variable_still semi row b t (before ++ ts) (closed_stays row t.1 (open_at b t.0) _ _ here) in
-    ap (λ c. close_along semi row c (before ++ t ∷ []) ts) e ∙ full_still semi row b (before ++ t ∷ []) ts (All-tail (λ (u : Term). IsClosedRange (open_at b u.0)) t ts h)
-
 -- ---- where each side lacks two things
 
 missing_append : (end : ℤ → OpenRange → Option ℤ) (b : OpenBounds) (xs ys : List Term) → missing end b (xs ++ ys) ≡ missing end b xs + missing end b ys
@@ -259,27 +241,96 @@ no_number : (c : Bool) (f : ℤ → ℤ) (o : Option ℤ) → o ≡ None → con
 no_number true f o e = rw e
 no_number false f o e = refl
 
-no_rule : (bound first second : Option ℤ) → first ≡ None → second ≡ None → closed_by (closed_by bound first) second ≡ bound
-no_rule bound first second e f = rw (e, f, closed_none bound) (closed_none bound)
+-- ---- a side that closes nothing
 
-stuck_range : (row : Row) (a : ℤ) (r : OpenRange) (least greatest : Option ℤ) → minus row.hi least ≡ None → minus row.lo greatest ≡ None → after_rules row a r least greatest ≡ r
-stuck_range row a r least greatest e f =
+present : (c : Bool) (n : ℕ) → cond c 1 0 + n ≡ 0 → c ≡ false
+present true n e = absurd (omega arith)
+present false n e = refl
+
+-- a bound that is there, or for which there is no number, stays
+bound_still : (bound number : Option ℤ) → (is_none bound ≡ false) ⊎ (number ≡ None) → closed_by bound number ≡ bound
+bound_still (Some v) number h = refl
+bound_still None number (inl there) = cc
+bound_still None number (inr none) = ap (closed_by None) none
+
+missing_both_append : (need target : ℤ → OpenRange → Option ℤ) (b : OpenBounds) (xs ys : List Term) → missing_both need target b (xs ++ ys) ≡ missing_both need target b xs + missing_both need target b ys
+missing_both_append need target b [] ys = omega arith
+missing_both_append need target b (x ∷ xs) ys = omega (arith, missing_both_append need target b xs ys)
+
+and_swap : (x y : Bool) → (x && y) ≡ (y && x)
+and_swap true true = refl
+and_swap true false = refl
+and_swap false true = refl
+and_swap false false = refl
+
+missing_both_swap : (need target : ℤ → OpenRange → Option ℤ) (b : OpenBounds) (ts : List Term) → missing_both need target b ts ≡ missing_both target need b ts
+missing_both_swap need target b [] = refl
+missing_both_swap need target b (t ∷ ts) =
+    ap₂ (λ c n. cond c 1 0 + n) (and_swap (is_none (need t.1 (open_at b t.0))) (is_none (target t.1 (open_at b t.0)))) (missing_both_swap need target b ts)
+
+-- a side without bounds that it needs leaves nothing
+wanting_side : (side : Option ℤ) (need : ℤ → OpenRange → Option ℤ) (b : OpenBounds) (before after : List Term) (t : Term) → 0 < lack side need b (before ++ t ∷ after) → is_none (need t.1 (open_at b t.0)) ≡ false → minus side (sum_at_ends need b (before ++ after)) ≡ None
+wanting_side None need b before after t h e = refl
+wanting_side (Some v) need b before after t h e =
+    let here : cond (is_none (need t.1 (open_at b t.0))) 1 0 ≡ 0 = rw e in
+    let left : 0 < missing need b (before ++ after) = omega (arith, here, h, missing_append need b before (t ∷ after), missing_append need b before after) in
+    ap (minus (Some v)) (missing_sum need b (before ++ after) (Some (pos 0)) left)
+
+-- for each term, the bound that the side could close is there, or the side leaves nothing for it
+side_still : (side : Option ℤ) (need target : ℤ → OpenRange → Option ℤ) (b : OpenBounds) (before after : List Term) (t : Term) → IsSideIdle (lack side need b (before ++ t ∷ after)) (missing target b (before ++ t ∷ after)) (missing_both need target b (before ++ t ∷ after)) → (is_none (target t.1 (open_at b t.0)) ≡ false) ⊎ (minus side (sum_at_ends need b (before ++ after)) ≡ None)
+side_still side need target b before after t (stuck h) = inr (stuck_side side need b before after t h)
+side_still side need target b before after t (full h) =
+    inl (present (is_none (target t.1 (open_at b t.0))) (missing target b after) (omega (arith, h, missing_append target b before (t ∷ after))))
+side_still side need target b before after t (blocked h none) = ends_case (is_none (target t.1 (open_at b t.0))) (is_none (need t.1 (open_at b t.0))) refl refl
+  where
+    ends_case : (c d : Bool) → is_none (target t.1 (open_at b t.0)) ≡ c → is_none (need t.1 (open_at b t.0)) ≡ d → (is_none (target t.1 (open_at b t.0)) ≡ false) ⊎ (minus side (sum_at_ends need b (before ++ after)) ≡ None)
+    ends_case false d e f = inl e
+    ends_case true false e f = inr (wanting_side side need b before after t h f)
+    ends_case true true e f =
+        let both : cond (is_none (need t.1 (open_at b t.0)) && is_none (target t.1 (open_at b t.0))) 1 0 ≡ 1 = rw (e, f) in
+        absurd (omega (arith, both, none, missing_both_append need target b before (t ∷ after)))
+
+not_less : (a b : ℤ) → int_lt a b ≡ true → int_lt b a ≡ false
+not_less a b h = grind (arith, ints)
+
+-- a rule that needs a sign of the coefficient
+rule_still : (sign : Bool) (bound o : Option ℤ) (f : ℤ → ℤ) → (sign ≡ true → (is_none bound ≡ false) ⊎ (o ≡ None)) → (is_none bound ≡ false) ⊎ (cond sign (option_map f o) None ≡ None)
+rule_still false bound o f h = inr refl
+rule_still true bound o f h = elim (h refl) [
+  | inl there ↦ inl there
+  | inr none ↦ inr (ap (option_map f) none)
+]
+
+idle_range : (row : Row) (a : ℤ) (r : OpenRange) (least greatest : Option ℤ) → (is_none (greatest_end a r) ≡ false) ⊎ (minus row.hi least ≡ None) → (is_none (least_end a r) ≡ false) ⊎ (minus row.lo greatest ≡ None) → after_rules row a r least greatest ≡ r
+idle_range row a r least greatest hi lo =
+    let above : int_lt (pos 0) a ≡ true → ((is_none r.1 ≡ false) ⊎ (minus row.hi least ≡ None)) × ((is_none r.0 ≡ false) ⊎ (minus row.lo greatest ≡ None)) = λ s. (rw s at hi, rw s at lo) in
+    let under : int_lt a (pos 0) ≡ true → ((is_none r.0 ≡ false) ⊎ (minus row.hi least ≡ None)) × ((is_none r.1 ≡ false) ⊎ (minus row.lo greatest ≡ None)) = λ s. let n = not_less a (pos 0) s in (rw n at hi, rw n at lo) in
     same_range (after_rules row a r least greatest) r
-    (no_rule r.0 (hi_lower row.hi a least) (lo_lower row.lo a greatest) (no_number (int_lt a (pos 0)) (λ d. ceiling_of d a) _ e) (no_number (int_lt (pos 0) a) (λ d. ceiling_of d a) _ f))
-    (no_rule r.1 (hi_upper row.hi a least) (lo_upper row.lo a greatest) (no_number (int_lt (pos 0) a) (λ d. floor_of d a) _ e) (no_number (int_lt a (pos 0)) (λ d. floor_of d a) _ f))
+    (ap (λ o. closed_by o (lo_lower row.lo a greatest)) (bound_still r.0 (hi_lower row.hi a least) (rule_still (int_lt a (pos 0)) r.0 (minus row.hi least) (λ d. ceiling_of d a) (λ s. (under s).0)))
+    ∙ bound_still r.0 (lo_lower row.lo a greatest) (rule_still (int_lt (pos 0) a) r.0 (minus row.lo greatest) (λ d. ceiling_of d a) (λ s. (above s).1)))
+    (ap (λ o. closed_by o (lo_upper row.lo a greatest)) (bound_still r.1 (hi_upper row.hi a least) (rule_still (int_lt (pos 0) a) r.1 (minus row.hi least) (λ d. floor_of d a) (λ s. (above s).0)))
+    ∙ bound_still r.1 (lo_upper row.lo a greatest) (rule_still (int_lt a (pos 0)) r.1 (minus row.lo greatest) (λ d. floor_of d a) (λ s. (under s).1)))
 
-stuck_still : (semi : ℕ → Bool) (row : Row) (b : OpenBounds) (before after : List Term) → 2 ≤ lack row.hi least_end b (before ++ after) → 2 ≤ lack row.lo greatest_end b (before ++ after) → close_along semi row b before after ≡ b
-stuck_still semi row b before [] h k = refl
-stuck_still semi row b before (t ∷ ts) h k =
-    let here = stuck_range row t.1 (open_at b t.0) _ _ (stuck_side row.hi least_end b before ts t h) (stuck_side row.lo greatest_end b before ts t k) in
+-- both sides, at the terms before and those still to come
+record AreSidesIdle (b : OpenBounds) (row : Row) (ts : List Term) : Type 0 where
+  pub hi : IsSideIdle (lack row.hi least_end b ts) (missing greatest_end b ts) (missing_both least_end greatest_end b ts)
+  pub lo : IsSideIdle (lack row.lo greatest_end b ts) (missing least_end b ts) (missing_both greatest_end least_end b ts)
+
+idle_along : (semi : ℕ → Bool) (row : Row) (b : OpenBounds) (before after : List Term) → AreSidesIdle b row (before ++ after) → close_along semi row b before after ≡ b
+idle_along semi row b before [] h = refl
+idle_along semi row b before (t ∷ ts) h =
+    let here = idle_range row t.1 (open_at b t.0) (sum_at_ends least_end b (before ++ ts)) (sum_at_ends greatest_end b (before ++ ts))
+    (side_still row.hi least_end greatest_end b before ts t h.hi) (side_still row.lo greatest_end least_end b before ts t h.lo) in
     let e = variable_still semi row b t (before ++ ts) here in
-    let next = append_assoc before (t ∷ []) ts in
     ap (λ c. close_along semi row c (before ++ t ∷ []) ts) e
-    ∙ stuck_still semi row b (before ++ t ∷ []) ts (subst (λ us. 2 ≤ lack row.hi least_end b us) (sym next) h) (subst (λ us. 2 ≤ lack row.lo greatest_end b us) (sym next) k)
+    ∙ idle_along semi row b (before ++ t ∷ []) ts (subst (AreSidesIdle b row) (sym (append_assoc before (t ∷ []) ts)) h)
 
 pub idle_still : (semi : ℕ → Bool) (b : OpenBounds) (row : Row) → IsIdle b row → close_along semi row b [] row.terms ≡ b
-idle_still semi b row (stuck h k) = stuck_still semi row b [] row.terms h k
-idle_still semi b row (full h) = full_still semi row b [] row.terms h
+idle_still semi b row h =
+    idle_along semi row b [] row.terms record {
+      hi = h.hi;
+      lo = subst (IsSideIdle (lack row.lo greatest_end b row.terms) (missing least_end b row.terms)) (missing_both_swap least_end greatest_end b row.terms) h.lo;
+    }
 
 -- ---- what a row that takes part gives
 
@@ -319,18 +370,6 @@ tails_after b ts tails i here l h e =
     let place : length ts - (length ts - 1 - i) ≡ i + 1 = omega arith in
     rw e (subst (λ n. AreTailsOf b (drop n ts) (get_or tails (length ts - 1 - i) no_tails)) place (h.each (length ts - 1 - i) (omega arith)))
 
--- a term that lacks no bound at either end has both
-pub lacks_none : (a : ℤ) (r : OpenRange) → is_none (least_end a r) ≡ false → is_none (greatest_end a r) ≡ false → IsClosedRange r
-lacks_none a r e f = sign_case (int_lt (pos 0) a) refl
-  where
-    there : (o : Option ℤ) → is_none o ≡ false → IsSome o
-    there None h = cc
-    there (Some v) h = refl
-
-    sign_case : (s : Bool) → int_lt (pos 0) a ≡ s → IsClosedRange r
-    sign_case true h = record { lower = there r.0 (rw h at e); upper = there r.1 (rw h at f) }
-    sign_case false h = record { lower = there r.0 (rw h at f); upper = there r.1 (rw h at e) }
-
 -- a test as a number
 pub test_number : (b c : Bool) (n : ℕ) → n ≡ from_bool b → b ≡ c → n ≡ cond c 1 0
 test_number true true n e f = e
@@ -344,3 +383,8 @@ row_idle semi b row h = part_case (takes_part (length b) row)
     part_case : (p : Bool) → b ≡ cond p (close_along semi row b [] row.terms) b
     part_case true = sym (idle_still semi b row h)
     part_case false = refl
+
+pub same_idle : {a b c x y z : ℕ} → IsSideIdle a b c → a ≡ x → b ≡ y → c ≡ z → IsSideIdle x y z
+same_idle (stuck h) e f g = stuck (omega arith)
+same_idle (full h) e f g = full (omega arith)
+same_idle (blocked h k) e f g = blocked (omega arith) (omega arith)

@@ -1,11 +1,11 @@
 -- How the rounds are computed: for each place of a row what its later terms add, and a mark for each variable and row.
-use Rattle.std.specs.Prelude.{◌≡◌, ℕ, ◌+◌, ◌-◌, ◌*◌, ◌<◌, ◌≤◌, ◌&&◌, Bool, false, cond, List, [], ◌∷◌, All, length, drop, fold, slice_index_or, Option, None, Some, is_none, ℤ, pos, neg_ℤ, ◌+ℤ◌, ◌-ℤ◌, ◌≤ℤ◌, int_le, unsigned_abs}
+use Rattle.std.specs.Prelude.{◌≡◌, ℕ, ◌+◌, ◌-◌, ◌*◌, ◌<◌, ◌≤◌, ◌&&◌, Bool, false, cond, List, [], ◌∷◌, length, drop, fold, slice_index_or, Option, None, Some, is_none, ℤ, pos, neg_ℤ, ◌+ℤ◌, ◌-ℤ◌, ◌≤ℤ◌, int_le, unsigned_abs}
 use Rattle.sp_model.specs.declared.parts.Row.{Row}
 use Rattle.sp_model.specs.declared.tails.Tail.{Tail}
 use Rattle.sp_model.specs.declared.tails.Tails.{Tails}
 use Rattle.sp_model.specs.Limits.{greatest_width}
 use Rattle.sp_model.specs.Rounds.{plus, at_ends, least_end, greatest_end}
-use Rattle.sp_model.specs.Stated.{OpenRange, OpenBounds, IsClosedRange, open_at}
+use Rattle.sp_model.specs.Stated.{OpenRange, OpenBounds, open_at}
 use Rattle.sp_model.specs.Sums.{Term}
 
 -- a sum that goes on by a tail: none where it gets too great or too small on the way
@@ -58,7 +58,20 @@ missing end b (t ∷ ts) = cond (is_none (end t.1 (open_at b t.0))) 1 0 + missin
 abbrev pub lack : Option ℤ → (ℤ → OpenRange → Option ℤ) → OpenBounds → List Term → ℕ
 lack side end b ts = cond (is_none side) 2 0 + missing end b ts
 
--- no rule can close a bound by the row: each side lacks two things, or no bound is missing
-pub data IsIdle (b : OpenBounds) (row : Row) : Type 0 where
-  stuck : 2 ≤ lack row.hi least_end b row.terms → 2 ≤ lack row.lo greatest_end b row.terms → IsIdle b row
-  full : All (λ t. IsClosedRange (open_at b t.0)) row.terms → IsIdle b row
+-- how many terms lack the bounds at both ends
+abbrev pub missing_both : (ℤ → OpenRange → Option ℤ) → (ℤ → OpenRange → Option ℤ) → OpenBounds → List Term → ℕ
+missing_both need target b [] = 0
+missing_both need target b (t ∷ ts) =
+    cond (is_none (need t.1 (open_at b t.0)) && is_none (target t.1 (open_at b t.0))) 1 0 + missing_both need target b ts
+
+-- a side closes nothing that lacks two things; or where no bound is missing that it could close; or where it lacks one thing
+-- and no variable lacks both bounds
+pub data IsSideIdle (lacks targets both : ℕ) : Type 0 where
+  stuck : 2 ≤ lacks → IsSideIdle lacks targets both
+  full : targets ≡ 0 → IsSideIdle lacks targets both
+  blocked : 0 < lacks → both ≡ 0 → IsSideIdle lacks targets both
+
+-- no rule can close a bound by the row
+pub record IsIdle (b : OpenBounds) (row : Row) : Type 0 where
+  pub hi : IsSideIdle (lack row.hi least_end b row.terms) (missing greatest_end b row.terms) (missing_both least_end greatest_end b row.terms)
+  pub lo : IsSideIdle (lack row.lo greatest_end b row.terms) (missing least_end b row.terms) (missing_both least_end greatest_end b row.terms)

@@ -1,7 +1,7 @@
 //! The rounds, in which the rows close bounds that are missing.
 
 ghost use Rattle.std.specs.Prelude.{◌≡◌, ◌↔◌, ◌<◌, ◌≤◌, ℕ, pos, [], All, cond, is_none, length, map, slice_index_or, slice_set, unsigned_abs, IsFalse, IsTrue, IfOk, OnOk};
-ghost use Rattle.sp_model.specs.InnerRounds.{marked, no_tails, AreTails, IsIdle};
+ghost use Rattle.sp_model.specs.InnerRounds.{marked, no_tails, AreTails, IsIdle, IsSideIdle};
 ghost use Rattle.sp_model.specs.Limits.{greatest_width, most_rounds};
 ghost use Rattle.sp_model.specs.Rounds.{takes_part, coefficient_size, least_end, greatest_end, plus, after_rules, close_along, close_row, round, rounds, rounded};
 ghost use Rattle.sp_model.specs.Stated.{IsClosedRange, open_at, is_semi, stated_of};
@@ -87,35 +87,47 @@ pub fn is_closed(range: &OpenRange) -> bool
     range.0.is_some() && range.1.is_some()
 }
 
-/// Whether a rule may close a bound by the row. `false` is certain, and most rows are known by it in one short pass.
+/// Whether a rule may close a bound by the row. `false` is certain, and all rows but those that close a bound, or whose
+/// numbers are too great for it, are known by it in one short pass.
 fn may_close(bounds: &[OpenRange], row: &Row) -> bool
     requires { All (λ t. t.0 < length bounds.now) row.now.terms }
     ensures { IsFalse result → IsIdle bounds.now row.now }
 {
-    let mut open = false;
-    let mut least: usize = lack_of(&row.hi);
-    let mut greatest: usize = lack_of(&row.lo);
+    let hi = lack_of(&row.hi);
+    let lo = lack_of(&row.lo);
+    let mut least: usize = 0;
+    let mut greatest: usize = 0;
+    let mut both: usize = 0;
     for term in row.terms.as_slice() {
         let lacks = lacks_of(bounds, term);
-        open |= lacks.0 | lacks.1;
         least += usize::from(lacks.0);
         greatest += usize::from(lacks.1);
-        if are_both_stuck(least, greatest) {
+        both += usize::from(lacks.0 & lacks.1);
+        if are_both_stuck(hi + least, lo + greatest) {
             return false;
         }
     }
-    open
+    may_side_close(hi + least, greatest, both) | may_side_close(lo + greatest, least, both)
 }
 
-fn are_both_stuck(least: usize, greatest: usize) -> bool
-    ensures { IsTrue result ↔ ((2 ≤ least) × (2 ≤ greatest)) }
+fn are_both_stuck(hi: usize, lo: usize) -> bool
+    ensures { IsTrue result ↔ ((2 ≤ hi) × (2 ≤ lo)) }
 {
-    2 <= least && 2 <= greatest
+    2 <= hi && 2 <= lo
+}
+
+/// Whether a side may close a bound that lacks so many things, where so many bounds are missing that it could close, and so
+/// many variables lack both.
+fn may_side_close(lacks: usize, targets: usize, both: usize) -> bool
+    ensures { IsFalse result → IsSideIdle lacks targets both }
+{
+    lacks < 2 && 0 < targets && (lacks == 0 || 0 < both)
 }
 
 /// What a side lacks by itself.
 fn lack_of(side: &Option<i128>) -> usize
-    ensures { result ≡ cond (is_none side.now) 2 0 }
+    ensures value { result ≡ cond (is_none side.now) 2 0 }
+    ensures few { result ≤ 2 }
 {
     if side.is_none() { 2 } else { 0 }
 }

@@ -272,7 +272,7 @@ missing_both_swap need target b (t ∷ ts) =
 wanting_side : (side : Option ℤ) (need : ℤ → OpenRange → Option ℤ) (b : OpenBounds) (before after : List Term) (t : Term) → 0 < lack side need b (before ++ t ∷ after) → is_none (need t.1 (open_at b t.0)) ≡ false → minus side (sum_at_ends need b (before ++ after)) ≡ None
 wanting_side None need b before after t h e = refl
 wanting_side (Some v) need b before after t h e =
-    let here : cond (is_none (need t.1 (open_at b t.0))) 1 0 ≡ 0 = rw e in
+    let here : cond (is_none (need t.1 (open_at b t.0))) 1 0 + 0 ≡ 0 = rw e in
     let left : 0 < missing need b (before ++ after) = omega (arith, here, h, missing_append need b before (t ∷ after), missing_append need b before after) in
     ap (minus (Some v)) (missing_sum need b (before ++ after) (Some (pos 0)) left)
 
@@ -287,7 +287,7 @@ side_still side need target b before after t (blocked h none) = ends_case (is_no
     ends_case false d e f = inl e
     ends_case true false e f = inr (wanting_side side need b before after t h f)
     ends_case true true e f =
-        let both : cond (is_none (need t.1 (open_at b t.0)) && is_none (target t.1 (open_at b t.0))) 1 0 ≡ 1 = rw (e, f) in
+        let both : cond (is_none (need t.1 (open_at b t.0)) && is_none (target t.1 (open_at b t.0))) 1 0 + 0 ≡ 1 = rw (e, f) in
         absurd (omega (arith, both, none, missing_both_append need target b before (t ∷ after)))
 
 not_less : (a b : ℤ) → int_lt a b ≡ true → int_lt b a ≡ false

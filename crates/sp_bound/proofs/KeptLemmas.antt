@@ -1,5 +1,5 @@
 -- Kept rows tell what bounds tell, and no list closes a box where none that is looked at does.
-use Rattle.std.proofs.Common.{◌≡◌, ◌⊎◌, ℕ, ◌^◌, ◌<◌, ◌≤◌, Bool, true, false, not, ◌||◌, List, [], ◌∷◌, length, map, get_or, All, Contains, MatchOption, Vec, Global, Option, None, Some, ℤ, pos, ◌+ℤ◌, ◌≤ℤ◌, inl, inr, refl, sym, ap, subst, ◌∙◌, arith}
+use Rattle.std.proofs.Common.{◌≡◌, ◌⊎◌, ℕ, ◌*◌, ◌^◌, ◌<◌, ◌≤◌, Bool, true, false, not, ◌||◌, cond, List, [], ◌∷◌, length, map, get_or, All, Contains, MatchOption, Vec, Global, Option, None, Some, ℤ, pos, ◌+ℤ◌, ◌≤ℤ◌, inl, inr, refl, sym, ap, subst, ◌∙◌, arith}
 use Rattle.std.specs.Int.RustNames.{unsigned_abs}
 use Rattle.std.proofs.lemmas.Int.{ints}
 use Rattle.std.proofs.lemmas.List.Elements.{All-contains}
@@ -10,16 +10,17 @@ use Rattle.sp_model.specs.Models.{root_of}
 use Rattle.sp_model.specs.Rounds.{ceiling_of}
 use Rattle.sp_model.specs.Rules.{IsLawful}
 use Rattle.sp_model.specs.Stated.{is_at_least, is_at_most}
-use Rattle.sp_sums.specs.Extremes.{is_broken_over, least_over, most_over}
+use Rattle.sp_sums.specs.declared.spans.Span.{Span}
+use Rattle.sp_sums.specs.Extremes.{is_broken_over, least_over, most_over, span_of}
 use Rattle.sp_sums.specs.Ranges.{IsFilled, IsInside}
 use Rattle.sp_sums.specs.Rows.{AreUnbroken, IsBrokenAt, IsFirstBroken, RowsOver, row_at}
 use Rattle.sp_dual.specs.Lists.{MultiplierList, zero_list}
 use Rattle.sp_bound.specs.declared.keeping.Draft.{Draft}
 use Rattle.sp_bound.specs.declared.keeping.Owner.{Owner}
 use Rattle.sp_bound.specs.declared.kept.KeptBounds.{KeptBounds}
-use Rattle.sp_bound.specs.Bounds.{AreRowsKnown, addends, bound_of, least_values, reduced_cost, side_product, total}
-use Rattle.sp_bound.specs.Closing.{IsClosing, IsIdle, IsLeftOpen, closes, is_above, list_at}
-use Rattle.sp_bound.specs.Inner.{IsRising}
+use Rattle.sp_bound.specs.Bounds.{AreRowsKnown, addends, bound_of, fits, least_values, reduced_cost, side_product, total}
+use Rattle.sp_bound.specs.Closing.{HasBound, IsClosing, IsIdle, IsLeftOpen, closes, is_above, list_at}
+use Rattle.sp_bound.specs.Inner.{IsRising, ended, if_fits}
 use Rattle.sp_bound.specs.KeptBounds.{AreCovered, AreOwned, AreRaised, HasRow, IsKeptOf, IsOwned, IsRaised, bounds_of, lists_of, owner_at, threshold_of}
 use Rattle.sp_bound.specs.Keeping.{IsDraftOf, StandsOn}
 use Rattle.sp_bound.specs.Raising.{IsRaising}
@@ -27,7 +28,7 @@ use Rattle.sp_bound.specs.StatedLists.{IsStated, stated_lists}
 use Rattle.sp_bound.proofs.HeldLemmas.{total-append}
 use Rattle.sp_bound.proofs.IdleLemmas.{idle_closes, least_values_along}
 use Rattle.sp_bound.proofs.ReadyLemmas.{all_rising}
-use Rattle.sp_bound.proofs.SafeLemmas.{bound-safe, total-size, values-size}
+use Rattle.sp_bound.proofs.SafeLemmas.{addends-size, bound-safe, ceiling-size, small_fits, total-size, values-size}
 use Rattle.sp_bound.proofs.SoundLemmas.{IsCeiling}
 use Rattle.sp_bound.proofs.StatedLemmas.{stated_are, stated_first}
 use Rattle.sp_bound.proofs.TermLemmas.{terms-least}
@@ -43,14 +44,43 @@ not_not : (p : Bool) → not (not p) ≡ p
 not_not true = refl
 not_not false = refl
 
+row_values : (m : ModelParts) (b : Bounds) (ls : List MultiplierList) (o : Owner) (row : Row) → IsInside (root_of m) b → IsOwned m ls o row → least_over b row.terms ≡ total (least_values m (list_at ls o.place) 0 b)
+row_values m b ls o row inside owned =
+    let l = list_at ls o.place in
+    ap (least_over b) owned.terms ∙ terms-least (reduced_cost m l) (root_of m) b inside.long ∙ sym (least_values_along m l 0 b)
+
+-- what is added up is the sides and the row's sum
+row_sum : (m : ModelParts) (b : Bounds) (ls : List MultiplierList) (o : Owner) (row : Row) → IsInside (root_of m) b → IsOwned m ls o row → total (addends m b (list_at ls o.place)) ≡ o.sides +ℤ least_over b row.terms
+row_sum m b ls o row inside owned =
+    let l = list_at ls o.place in
+    let sides : total (map (side_product b m.rows) l.y) ≡ o.sides = ap total (owned.safe.sided b) ∙ sym owned.sides in
+    omega (arith, ints, total-append (map (side_product b m.rows) l.y) (least_values m l 0 b), sides, row_values m b ls o row inside owned)
+
+held_sum : (m : ModelParts) (l : MultiplierList) (s : ℤ) → fits s ≡ true → fits (ceiling_of s l.d +ℤ m.constant) ≡ true → ended m l (if_fits s) ≡ Some (ceiling_of s l.d +ℤ m.constant)
+held_sum m l s e f =
+    ap (λ (p : Bool). ended m l (cond p (Some s) None)) e
+    ∙ ap (λ (p : Bool). cond p (Some (ceiling_of s l.d +ℤ m.constant)) None) f
+
+-- the bound that ends from them is the list's
+row_bound : IsCeiling → (m : ModelParts) (b : Bounds) (ls : List MultiplierList) (o : Owner) (row : Row) → IsLawful m → IsInside (root_of m) b → pos 1 ≤ℤ (list_at ls o.place).d → IsOwned m ls o row → ended m (list_at ls o.place) (if_fits (o.sides +ℤ least_over b row.terms)) ≡ bound_of m b (list_at ls o.place)
+row_bound c m b ls o row lawful inside one owned =
+    let l = list_at ls o.place in
+    let s = o.sides +ℤ least_over b row.terms in
+    let sum : total (addends m b l) ≡ s = row_sum m b ls o row inside owned in
+    let size : unsigned_abs s ≤ 10 ^ 36 = omega (arith, ap unsigned_abs sum, total-size (addends m b l), addends-size m b l inside owned.safe) in
+    let quotient : unsigned_abs (ceiling_of s l.d) ≤ 10 ^ 36 = omega (arith, ceiling-size c s l.d one, size) in
+    let constant : unsigned_abs m.constant ≤ 10 ^ 36 = omega (arith, lawful.objective.narrow) in
+    let number : unsigned_abs (ceiling_of s l.d +ℤ m.constant) ≤ 2 * 10 ^ 36 = omega (arith, ints, quotient, constant) in
+    held_sum m l s (small_fits s (omega (arith, size))) (small_fits (ceiling_of s l.d +ℤ m.constant) (omega (arith, number)))
+    ∙ sym (bound-safe c m b l one constant inside owned.safe ∙ ap (λ (z : ℤ). Some (ceiling_of z l.d +ℤ m.constant)) sum)
+
 pub row_closes : IsCeiling → (m : ModelParts) (b : Bounds) (t : Option ℤ) (ls : List MultiplierList) (o : Owner) (row : Row) → IsLawful m → IsInside (root_of m) b → pos 1 ≤ℤ (list_at ls o.place).d → IsOwned m ls o row → IsRaised m t ls o row.hi → is_broken_over b row ≡ closes m b t (list_at ls o.place)
 row_closes c m b t ls o row lawful inside one owned raised =
     let l = list_at ls o.place in
     let v = least_over b row.terms in
-    let values : v ≡ total (least_values m l 0 b) = ap (least_over b) owned.terms ∙ terms-least (reduced_cost m l) (root_of m) b inside.long ∙ sym (least_values_along m l 0 b) in
+    let values : v ≡ total (least_values m l 0 b) = row_values m b ls o row inside owned in
     let size : unsigned_abs v ≤ 10 ^ 36 = omega (arith, ap unsigned_abs values, total-size (least_values m l 0 b), values-size m l 0 (root_of m) b inside.long inside.each, owned.safe.small) in
-    let sides : total (map (side_product b m.rows) l.y) ≡ o.sides = ap total (owned.safe.sided b) ∙ sym owned.sides in
-    let sum : total (addends m b l) ≡ o.sides +ℤ v = omega (arith, ints, total-append (map (side_product b m.rows) l.y) (least_values m l 0 b), sides, values) in
+    let sum : total (addends m b l) ≡ o.sides +ℤ v = row_sum m b ls o row inside owned in
     let bound : bound_of m b l ≡ Some (ceiling_of (o.sides +ℤ v) l.d +ℤ m.constant) = bound-safe c m b l one (omega (arith, lawful.objective.narrow)) inside owned.safe ∙ ap (λ (z : ℤ). Some (ceiling_of z l.d +ℤ m.constant)) sum in
     ap (λ (p : Bool). p || not (is_at_most row.hi v)) (low_none row.lo (most_over b row.terms) owned.low)
     ∙ ap not (raised.tells v size)
@@ -82,6 +112,27 @@ closing_row c m b t ls os rows asked r k h = record {
   known = (r.owned.each k h.known).known;
   closes = sym (ready_row c m b t ls os rows asked r k h.known) ∙ h.broken;
 }
+
+-- the bound of a row's list, as it ends from the sides and the row's sum
+row_bounds : IsCeiling → (m : ModelParts) (k : KeptBounds) (row : ℕ) → IsLawful m → IsInside k.sums.root (bounds_of k) → IsKeptOf m k → row < length k.sums.rows
+    → HasBound m (bounds_of k) (lists_of k) (owner_at k.owners row).place (ended m (list_at (lists_of k) (owner_at k.owners row).place) (if_fits ((owner_at k.owners row).sides +ℤ least_over (bounds_of k) (row_at k.sums.rows row).terms)))
+row_bounds c m k row lawful inside h known =
+    let owned = h.owned.each row known in
+    let within : IsInside (root_of m) (bounds_of k) = subst (λ (r : Bounds). IsInside r (bounds_of k)) h.rooted inside in
+    let one = (each_stated m (lists_of k) lawful h.stated (owner_at k.owners row).place owned.known).formed.positive in
+    record { known = owned.known; exact = row_bound c m (bounds_of k) (lists_of k) (owner_at k.owners row) (row_at k.sums.rows row) lawful within one owned }
+
+-- the same where all of it was read
+pub place_read : (m : ModelParts) (k : KeptBounds) (ls : List MultiplierList) (os : List Owner) (row i : ℕ) → IsKeptOf m k → row < length k.sums.rows → ls ≡ lists_of k → os ≡ k.owners → i ≡ row → (owner_at os i).place < length ls
+place_read m k ls os row i h known ls-is os-is i-is = rw (ls-is, os-is, i-is) (h.owned.each row known).known
+
+pub row_read : IsCeiling → (m n : ModelParts) (k : KeptBounds) (ls : List MultiplierList) (os : List Owner) (row i : ℕ) (l : MultiplierList) (s : Span) (sum result : Option ℤ)
+    → IsLawful m → IsInside k.sums.root (bounds_of k) → IsKeptOf m k → row < length k.sums.rows
+    → n ≡ m → ls ≡ lists_of k → os ≡ k.owners → i ≡ row → l ≡ list_at ls (owner_at os i).place → s ≡ span_of (bounds_of k) (row_at k.sums.rows row)
+    → sum ≡ if_fits ((owner_at os i).sides +ℤ s.least) → result ≡ ended n l sum
+    → HasBound m (bounds_of k) (lists_of k) (owner_at os i).place result
+row_read c m n k ls os row i l s sum result lawful inside h known n-is ls-is os-is i-is l-is s-is sum-is result-is =
+    rw (result-is, sum-is, s-is, l-is, n-is, ls-is, os-is, i-is) (row_bounds c m k row lawful inside h known)
 
 -- no place that is asked closes
 abbrev pub AskedOpen : ModelParts → Bounds → Option ℤ → List MultiplierList → List ℕ → Type 0

@@ -21,6 +21,11 @@ closes m b t l = is_above t (bound_of m b l)
 abbrev pub list_at : List MultiplierList → ℕ → MultiplierList
 list_at ls k = slice_index_or ls k zero_list
 
+-- the list at the place has this bound over the box, if it has one
+pub record HasBound (m : ModelParts) (b : Bounds) (ls : List MultiplierList) (k : ℕ) (bound : Option ℤ) : Type 0 where
+  pub known : k < length ls
+  pub exact : bound ≡ bound_of m b (list_at ls k)
+
 -- the list at the place closes the box
 pub record IsClosing (m : ModelParts) (b : Bounds) (t : Option ℤ) (ls : List MultiplierList) (k : ℕ) : Type 0 where
   pub known : k < length ls

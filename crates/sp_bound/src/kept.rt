@@ -1,16 +1,18 @@
 //! The bounds of the stated lists over one box, which are kept while ranges of the box and the threshold change.
 
-ghost use Rattle.std.specs.Prelude.{◌≡◌, ◌↔◌, ◌≤◌, None, length, slice_set, IfOk, IsTrue, MatchOption};
+ghost use Rattle.std.specs.Prelude.{◌≡◌, ◌↔◌, ◌<◌, ◌≤◌, None, length, slice_set, IfOk, IfSome, IsTrue, MatchOption};
 ghost use Rattle.sp_model.specs.Models.{root_of};
 ghost use Rattle.sp_sums.specs.Ranges.{IsChange, IsFilled};
-ghost use Rattle.sp_bound.specs.Closing.{IsClosing, IsLeftOpen};
+ghost use Rattle.sp_bound.specs.Closing.{HasBound, IsClosing, IsLeftOpen};
 ghost use Rattle.sp_bound.specs.KeptBounds.{IsKeptOf, bounds_of, lists_of, threshold_of};
 ghost use Rattle.sp_bound.specs.Keeping.{IsDraftOf, StandsOn};
 ghost use Rattle.sp_bound.specs.StatedLists.{stated_lists};
 
 use crate::asking::first_closing;
+use crate::bounds::ended;
 use crate::keeping::{Draft, Owner, drafted};
 use crate::laws::stated_lists_are_lists;
+use crate::numbers::added;
 use crate::raising::raise_all;
 use crate::stated::stated_lists;
 use sp_dual::Multipliers;
@@ -97,6 +99,33 @@ impl KeptBounds {
             &mut self.sums,
         );
         self.threshold = *threshold;
+    }
+
+    /// A list with a row that closes the box, with its bound there, which no list is asked for. `None` says nothing.
+    pub fn row_closing(&self, model: &Model) -> Option<(u32, Option<i128>)>
+        requires { IsKeptOf model.now self.now }
+        ensures { IfSome result (λ found. HasBound model.now (bounds_of self.now) (lists_of self.now) found.0 found.1) }
+    {
+        match self.sums.first_broken() {
+            Some(row) => Some(self.row_bound(model, row)),
+            None => None,
+        }
+    }
+
+    /// The list of a row, with its bound over the box.
+    fn row_bound(&self, model: &Model, row: RowId) -> (u32, Option<i128>)
+        requires kept { IsKeptOf model.now self.now }
+        requires known { row < length self.now.sums.rows }
+        ensures { HasBound model.now (bounds_of self.now) (lists_of self.now) result.0 result.1 }
+    {
+        let parts = model.parts();
+        stated_lists_are_lists();
+        quotients_are_exact();
+        let _root = self.sums.root();
+        let owner = self.owners.as_slice()[row.index()];
+        let list = &self.lists.as_slice()[owner.place as usize];
+        let sum = added(&owner.sides, &self.sums.span(row).least);
+        (owner.place, ended(parts, list, &sum))
     }
 
     /// The place of a stated list that closes the box: its bound is above the threshold. `None` exactly where no stated list

@@ -1,6 +1,6 @@
 //! Numbers that end where they pass 128 bits.
 
-ghost use Rattle.std.specs.Prelude.{◌≡◌, ◌-ℤ◌, ◌*ℤ◌};
+ghost use Rattle.std.specs.Prelude.{◌≡◌, ◌+ℤ◌, ◌-ℤ◌, ◌*ℤ◌};
 ghost use Rattle.sp_bound.specs.Inner.{if_fits, least_value, minus, plus};
 ghost use Rattle.sp_sums.specs.Extremes.{term_least};
 
@@ -16,6 +16,13 @@ pub fn less(left: &i128, right: &i128) -> Option<i128>
     ensures { result ≡ if_fits (left.now -ℤ right.now) }
 {
     left.checked_sub(*right)
+}
+
+/// The sum.
+pub fn added(left: &i128, right: &i128) -> Option<i128>
+    ensures { result ≡ if_fits (left.now +ℤ right.now) }
+{
+    left.checked_add(*right)
 }
 
 /// A sum with one addend more.

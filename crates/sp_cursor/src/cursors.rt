@@ -1,6 +1,6 @@
 //! The cursor of a run: the node whose box is in hand, and the moves to other nodes of the tree.
 
-ghost use Rattle.std.specs.Prelude.{◌≡◌, ◌<◌, ◌≤ℤ◌, ◌<ℤ◌, None, length, IfOk, IfSome, MatchOption, OnOk};
+ghost use Rattle.std.specs.Prelude.{◌≡◌, ◌↔◌, ◌<◌, ◌≤ℤ◌, ◌<ℤ◌, None, length, IfOk, IfSome, IsSome, MatchOption, OnOk};
 ghost use Rattle.sp_model.specs.declared.parts.ModelParts.{ModelParts};
 ghost use Rattle.sp_model.specs.Boxes.{CanSplit, range_at};
 ghost use Rattle.sp_model.specs.Models.{root_of};
@@ -52,9 +52,11 @@ pub struct Cursor {
     pub path: Vec<NodeId>,
 }
 
-/// A cursor at the root of any tree whose root has the closed box of the model, where that box has points.
+/// A cursor at the root of any tree whose root has the closed box of the model, none exactly where that box has no
+/// points.
 pub fn root_cursor(alloc: Global, model: &Model) -> Result<Option<Cursor>, NoMemory>
-    ensures { (t : TreeOf) → HasRoot model.now t → IfOk result (λ cursor. IfSome cursor (IsCursorOf model.now t)) }
+    ensures some { IfOk result (λ cursor. IsSome cursor ↔ IsFilled (root_of model.now)) }
+    ensures cursor { (t : TreeOf) → HasRoot model.now t → IfOk result (λ cursor. IfSome cursor (IsCursorOf model.now t)) }
 {
     if has_points(model) {
         let cursor = new_cursor(alloc, model)?;

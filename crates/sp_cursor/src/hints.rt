@@ -12,6 +12,9 @@ const MOST_TERMS: usize = 256;
 /// How many rows a hint looks at.
 const MOST_ROWS: usize = 64;
 
+/// From so many free variables on, one row is as good as another.
+const MOST_FREE: u32 = 24;
+
 /// Where a hint looks: at the rows of the variable that was split last, and from places that change with each turn
 /// where there are more terms or rows than it looks at.
 #[derive(Clone, Copy)]
@@ -341,6 +344,22 @@ fn slack_of(kept: &KeptBounds, row: &Row, place: usize) -> Option<(i128, i128)> 
     }
 }
 
+/// The product, which is quick where both numbers are small.
+fn product_of(left: i128, right: i128) -> i128 {
+    match (i64::try_from(left), i64::try_from(right)) {
+        (Ok(small), Ok(other)) => match small.checked_mul(other) {
+            Some(product) => i128::from(product),
+            None => left.saturating_mul(right),
+        },
+        _ => left.saturating_mul(right),
+    }
+}
+
+/// Whether the first slack is less than the second one, each over the divisor of its list.
+fn is_nearer(slack: &(i128, i128), nearest: &(i128, i128)) -> bool {
+    product_of(slack.0, nearest.1) < product_of(nearest.0, slack.1)
+}
+
 /// The row whose list has the least slack, in the units of the objective.
 fn nearest_row(kept: &KeptBounds) -> Option<usize> {
     let mut nearest = (0i128, 1i128);
@@ -349,9 +368,7 @@ fn nearest_row(kept: &KeptBounds) -> Option<usize> {
     for row in kept.sums.rows() {
         match slack_of(kept, row, place) {
             Some(slack) => {
-                if chosen.is_none()
-                    || slack.0.saturating_mul(nearest.1) < nearest.0.saturating_mul(slack.1)
-                {
+                if chosen.is_none() || is_nearer(&slack, &nearest) {
                     nearest = slack;
                     chosen = Some(place);
                 }
@@ -419,12 +436,12 @@ fn free_at(sums: &Sums, place: usize, bounds: &BoxOf, most: u32) -> u32 {
 
 /// Of the rows that are looked at, one with the fewest free variables of those that some point of the box breaks.
 fn tightest_row(sums: &Sums, bounds: &BoxOf, first: usize) -> Option<usize> {
-    let mut fewest = u32::MAX;
+    let mut fewest = MOST_FREE;
     let mut chosen = None;
     for step in 0..MOST_ROWS.min(sums.rows().len()) {
         let place = first.wrapping_add(step);
         let free = free_at(sums, place, bounds, fewest);
-        if 0 < free && free < fewest {
+        if 0 < free && (free < fewest || chosen.is_none()) {
             fewest = free;
             chosen = Some(place);
         }

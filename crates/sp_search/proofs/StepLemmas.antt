@@ -285,6 +285,25 @@ past-told m lists place aim best b number (Some bound) within formed is h =
     let by = h.2 in
     record { known = rw by within; formed = rw by formed; number = rw by (sym is ∙ h.0); past = h.1 }
 
+-- the same of a list with entries whose bound over the box is known
+pub row-told : (m : ModelParts) (ls lists : List MultiplierList) (place : ℕ) (aim : Aim) (best : Option ℤ) (b : Bounds) (v : ℤ) (w : ℕ × ℤ) (ws : List (ℕ × ℤ)) (r : Option Bound)
+    → All (IsStated m) (stated_lists m) → IsPrefix (stated_lists m) lists → ls ≡ stated_lists m → HasBound m b ls place v → (list_at lists place).y ≡ w ∷ ws
+    → MatchOption r ((u : ℤ) → Some v ≡ Some u → ¬ IsPast aim best u) (IsPastNumber (Some v) aim best place)
+    → IfSome r (λ bound. IsPastList m lists aim best b bound.by bound.least)
+row-told m ls lists place aim best b v w ws None all front same has some h = tt
+row-told m ls lists place aim best b v w ws (Some bound) all front same has some h =
+    let known : place < length (stated_lists m) = subst (λ (xs : List MultiplierList). place < length xs) same has.known in
+    let there : list_at lists place ≡ slice_index_or (stated_lists m) place zero_list = stated-at m lists place front known zero_list in
+    let bounded : bound_of m b (list_at lists place) ≡ Some v = ap (bound_of m b) there ∙ subst (λ (xs : List MultiplierList). bound_of m b (slice_index_or xs place zero_list) ≡ Some v) same has.bound in
+    let number : number_of m b (list_at lists place) ≡ Some v = ap (number_by m b (list_at lists place)) some ∙ bounded in
+    let by = h.2 in
+    record {
+      known = rw by (stated-within m lists place front known);
+      formed = rw by (table-stated m lists place all front known).formed;
+      number = rw by (number ∙ h.0);
+      past = h.1;
+    }
+
 -- the same of the empty list, which stands first
 pub zero-told : (m : ModelParts) (lists : List MultiplierList) (aim : Aim) (best : Option ℤ) (b : Bounds) (number : Option ℤ) (r : Option Bound)
     → All (IsStated m) (stated_lists m) → IsPrefix (stated_lists m) lists → 0 < length lists → number ≡ Some (least_objective m b)

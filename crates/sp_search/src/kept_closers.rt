@@ -1,6 +1,6 @@
 //! What closes the box in hand, by what is kept over it: the same answers as without.
 
-ghost use Rattle.std.specs.Prelude.{◌≡◌, ◌↔◌, ◌<◌, ◌≤◌, IsTrue, MatchOption, Some, length};
+ghost use Rattle.std.specs.Prelude.{◌≡◌, ◌↔◌, ◌<◌, ◌≤◌, IfSome, IsTrue, MatchOption, Some, length};
 ghost use Rattle.sp_model.specs.Boxes.{Bounds};
 ghost use Rattle.sp_model.specs.Models.{root_of};
 ghost use Rattle.sp_sums.specs.Ranges.{IsInside};
@@ -120,6 +120,34 @@ fn past_zero(
     past_number(&number, aim, best, 0)
 }
 
+/// A list with a row of its own whose number over the box is past the aim, if one is known at once.
+fn past_row(
+    model: &Model,
+    lists: &[Multipliers],
+    aim: &Aim,
+    best: &Option<i128>,
+    bounds: &BoxOf,
+    hand: &Hand,
+) -> Option<Bound>
+    requires hand { IsHand model.now hand.now bounds.now }
+    requires front { IsPrefix (stated_lists model.now) lists.now }
+    ensures { IfSome result (λ bound. IsPastList model.now lists.now aim.now best.now bounds.now bound.by bound.least) }
+{
+    let _parts = model.parts();
+    stated_lists_are_lists();
+    let _bounds = bounds;
+    match hand.lists.row_closing(model) {
+        None => None,
+        Some((place, number)) => {
+            if lists.len() <= place as usize || lists[place as usize].entries().is_empty() {
+                None
+            } else {
+                past_number(&Some(number), aim, best, place)
+            }
+        }
+    }
+}
+
 /// A stated list whose number over the box is past the aim, where the empty list's isn't.
 fn past_kept(
     model: &Model,
@@ -142,6 +170,10 @@ fn past_kept(
         (IsUnlisted model.now aim.now best.now bounds.now)
         (λ bound. IsPastList model.now lists.now aim.now best.now bounds.now bound.by bound.least) }
 {
+    match past_row(model, lists, aim, best, bounds, hand) {
+        Some(bound) => return Some(bound),
+        None => {}
+    }
     match hand.lists.closing(model) {
         None => None,
         Some(place) => match past_list(model, lists, place, aim, best, bounds, scratch) {

@@ -1,8 +1,10 @@
 //! The state of a search: the model, its tree, and what was found.
 
-ghost use Rattle.std.specs.Prelude.{◌≡◌, ◌↔◌, ◌^◌, ◌<◌, [], count_by, length, true, IfOk, IfSome, IsNone};
+ghost use Rattle.std.specs.Prelude.{◌≡◌, ◌↔◌, ◌^◌, ◌<◌, [], count_by, length, true, IfOk, IfSome, IsNone, IsSome};
+ghost use Rattle.sp_model.specs.Models.{root_of};
 ghost use Rattle.sp_filter.specs.Held.{FilterList};
 ghost use Rattle.sp_list.specs.declared.found.Found.{Found as FoundOf};
+ghost use Rattle.sp_sums.specs.Ranges.{IsFilled};
 ghost use Rattle.sp_cover.specs.Cover.{IsBest};
 ghost use Rattle.sp_tree.specs.Laws.{Extends};
 ghost use Rattle.sp_tree.specs.Trees.{is_held, is_reopened};
@@ -114,9 +116,10 @@ impl State {
         first_best(self.search.found(), self.search.best())
     }
 
-    /// A cursor at the root of the tree, for a run of steps; none where the closed box of the model is empty. It takes
+    /// A cursor at the root of the tree, for a run of steps; none exactly where the closed box has no points. It takes
     /// time and memory that grow with the terms of the model alone.
     pub fn cursor(&self) -> Result<Option<Cursor>, NoMemory>
+        ensures some { IfOk result (λ cursor. IsSome cursor ↔ IsFilled (root_of self.now.model)) }
         ensures cursor { IfOk result (λ cursor. HasCursor self.now cursor) }
         ensures state { IsState self.now }
     {

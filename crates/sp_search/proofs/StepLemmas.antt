@@ -21,10 +21,12 @@ use Rattle.sp_tree.specs.Splits.{box_at, parts_at}
 use Rattle.sp_tree.specs.Tables.{IsPrefix, list_at}
 use Rattle.sp_dual.specs.Lists.{IsWellFormed, MultiplierList, zero_list}
 use Rattle.sp_tree.specs.declared.nodes.Bound.{Bound}
+use Rattle.sp_bound.specs.Bounds.{bound_of}
+use Rattle.sp_bound.specs.Closing.{HasBound}
 use Rattle.sp_bound.specs.StatedLists.{IsStated, stated_lists}
 use Rattle.sp_tree.specs.Trees.{IsClosing, IsGrown, TreeOf, node_at, open_node, split_of, splits}
 use Rattle.sp_tree.specs.Laws.{IsPartition}
-use Rattle.sp_cover.specs.Numbers.{least_objective, number_of}
+use Rattle.sp_cover.specs.Numbers.{least_objective, number_by, number_of}
 use Rattle.sp_cover.specs.Cover.{IfScreened, IsBestWithin, IsOpenAt, IsSearch, SearchOf}
 use Rattle.sp_cover.specs.declared.aims.Aim.{Aim}
 use Rattle.sp_cover.specs.Moves.{FitsAim, IsBetter, IsPast, MayClose, MayFind, closed_as, found_as, moved_to, settled}
@@ -275,6 +277,11 @@ unlisted-more m lists n aim best b h here = record {
   ];
 }
 
+-- the number of a list with entries is its bound
+number-listed : (m : ModelParts) (b : Bounds) (list : MultiplierList) (entries : List (ℕ × ℤ)) → 0 < length entries → number_by m b list entries ≡ bound_of m b list
+number-listed m b list [] some = absurd (omega (arith, some))
+number-listed m b list (e ∷ es) some = refl
+
 -- what a list's number says of it
 pub past-told : (m : ModelParts) (lists : List MultiplierList) (place : ℕ) (aim : Aim) (best : Option ℤ) (b : Bounds) (number : Option ℤ) (r : Option Bound)
     → place < length lists → IsWellFormed (list_at lists place) → number ≡ number_of m b (list_at lists place)
@@ -285,24 +292,18 @@ past-told m lists place aim best b number (Some bound) within formed is h =
     let by = h.2 in
     record { known = rw by within; formed = rw by formed; number = rw by (sym is ∙ h.0); past = h.1 }
 
--- the same of a list with entries whose bound over the box is known
-pub row-told : (m : ModelParts) (ls lists : List MultiplierList) (place : ℕ) (aim : Aim) (best : Option ℤ) (b : Bounds) (v : ℤ) (w : ℕ × ℤ) (ws : List (ℕ × ℤ)) (r : Option Bound)
-    → All (IsStated m) (stated_lists m) → IsPrefix (stated_lists m) lists → ls ≡ stated_lists m → HasBound m b ls place v → (list_at lists place).y ≡ w ∷ ws
-    → MatchOption r ((u : ℤ) → Some v ≡ Some u → ¬ IsPast aim best u) (IsPastNumber (Some v) aim best place)
+-- the same of a list with entries whose bound is known
+pub row-told : (m : ModelParts) (ls lists : List MultiplierList) (place : ℕ) (aim : Aim) (best : Option ℤ) (b : Bounds) (number : Option ℤ) (r : Option Bound)
+    → All (IsStated m) (stated_lists m) → IsPrefix (stated_lists m) lists → ls ≡ stated_lists m → HasBound m b ls place number → place < length lists → 0 < length (list_at lists place).y
+    → MatchOption r ((v : ℤ) → number ≡ Some v → ¬ IsPast aim best v) (IsPastNumber number aim best place)
     → IfSome r (λ bound. IsPastList m lists aim best b bound.by bound.least)
-row-told m ls lists place aim best b v w ws None all front same has some h = tt
-row-told m ls lists place aim best b v w ws (Some bound) all front same has some h =
+row-told m ls lists place aim best b number None all front same has within some h = tt
+row-told m ls lists place aim best b number (Some bound) all front same has within some h =
     let known : place < length (stated_lists m) = subst (λ (xs : List MultiplierList). place < length xs) same has.known in
-    let there : list_at lists place ≡ slice_index_or (stated_lists m) place zero_list = stated-at m lists place front known zero_list in
-    let bounded : bound_of m b (list_at lists place) ≡ Some v = ap (bound_of m b) there ∙ subst (λ (xs : List MultiplierList). bound_of m b (slice_index_or xs place zero_list) ≡ Some v) same has.bound in
-    let number : number_of m b (list_at lists place) ≡ Some v = ap (number_by m b (list_at lists place)) some ∙ bounded in
+    let there : slice_index_or ls place zero_list ≡ list_at lists place = ap (λ (xs : List MultiplierList). slice_index_or xs place zero_list) same ∙ stated-at m lists place front known zero_list in
+    let exact : number ≡ number_of m b (list_at lists place) = has.exact ∙ ap (bound_of m b) there ∙ sym (number-listed m b (list_at lists place) (list_at lists place).y some) in
     let by = h.2 in
-    record {
-      known = rw by (stated-within m lists place front known);
-      formed = rw by (table-stated m lists place all front known).formed;
-      number = rw by (number ∙ h.0);
-      past = h.1;
-    }
+    record { known = rw by within; formed = rw by (table-stated m lists place all front known).formed; number = rw by (sym exact ∙ h.0); past = h.1 }
 
 -- the same of the empty list, which stands first
 pub zero-told : (m : ModelParts) (lists : List MultiplierList) (aim : Aim) (best : Option ℤ) (b : Bounds) (number : Option ℤ) (r : Option Bound)

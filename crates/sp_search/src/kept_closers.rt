@@ -134,16 +134,15 @@ fn past_row(
     ensures { IfSome result (λ bound. IsPastList model.now lists.now aim.now best.now bounds.now bound.by bound.least) }
 {
     let _parts = model.parts();
-    stated_lists_are_lists();
     let _bounds = bounds;
+    stated_lists_are_lists();
     match hand.lists.row_closing(model) {
         None => None,
         Some((place, number)) => {
             if lists.len() <= place as usize || lists[place as usize].entries().is_empty() {
-                None
-            } else {
-                past_number(&Some(number), aim, best, place)
+                return None;
             }
+            past_number(&number, aim, best, place)
         }
     }
 }

@@ -1,5 +1,5 @@
 -- A step: what may close a leaf, which point is wanted, and that each node's box lies in the model's.
-use Rattle.std.proofs.Common.{◌≡◌, ℕ, zero, suc, ◌+◌, ◌<◌, ◌≤◌, inl, inr, Bool, true, false, not, Option, None, Some, IfSome, MatchOption, List, [], ◌∷◌, ◌++◌, length, slice_index_or, All, AllPairs, IsTrue, ℤ, ◌≤ℤ◌, ◌<ℤ◌, ◌==◌, refl, sym, ap, ◌∙◌, arith, append_assoc, length-append}
+use Rattle.std.proofs.Common.{◌≡◌, ℕ, zero, suc, ◌+◌, ◌<◌, ◌≤◌, inl, inr, Bool, true, false, not, Option, None, Some, IfSome, MatchOption, List, [], ◌∷◌, ◌++◌, length, slice_index_or, All, AllPairs, IsTrue, ℤ, ◌≤ℤ◌, ◌<ℤ◌, ◌==◌, refl, sym, ap, subst, ◌∙◌, arith, append_assoc, length-append}
 use Rattle.std.proofs.lemmas.Int.{by_lt_z}
 use Rattle.std.proofs.lemmas.List.{get_or_append_left, get_or-map, length-map}
 use Rattle.std.proofs.lemmas.List.Elements.{All-weaker}
@@ -291,6 +291,11 @@ past-told m lists place aim best b number None within formed is h = record { non
 past-told m lists place aim best b number (Some bound) within formed is h =
     let by = h.2 in
     record { known = rw by within; formed = rw by formed; number = rw by (sym is ∙ h.0); past = h.1 }
+
+-- a length that is tested to be 0, and isn't
+pub some-unless : (n : ℕ) (empty : Bool) → empty ≡ (n == 0) → empty ≡ false → 0 < n
+some-unless zero empty is none = absurd (false≢true (sym none ∙ is))
+some-unless (suc n) empty is none = omega arith
 
 -- the same of a list with entries whose bound is known
 pub row-told : (m : ModelParts) (ls lists : List MultiplierList) (place : ℕ) (aim : Aim) (best : Option ℤ) (b : Bounds) (number : Option ℤ) (r : Option Bound)

@@ -1,6 +1,6 @@
 #!/usr/bin/env python3
-"""Measures what a written term costs in `feasible` and `value`, beside the same loops in Rust, and writes its part of
-docs/performance.md.
+"""Measures what a written term costs in `feasible` and `value`, beside the same loops in Rust, and what `closed_box`
+costs, and writes its part of docs/performance.md.
 
 usage: bench/model.py       after 'rt run' in crates/model_bench; needs rustc, and builds bench/model_bench.rs alone
 """
@@ -10,11 +10,13 @@ import subprocess
 import sys
 import tempfile
 
-from tables import TOP, best, built, machine, put
+from tables import TOP, best, built, least, machine, put
 
 VARIABLES, TERMS = 2000, 100_000
 # the question, the terms that one round adds up, and the two numbers of rounds
 QUESTIONS = [("feasible", TERMS, 1_000, 5_000), ("value", VARIABLES, 50_000, 250_000)]
+# the terms of the model whose box is closed, and the two numbers of rounds; its first variable is closed to 9
+CLOSED, ROUNDS, GREATEST = 200_000, (2, 22), 9
 
 
 def each_term(program, question, terms, few, many, folder):
@@ -22,6 +24,17 @@ def each_term(program, question, terms, few, many, folder):
     (short, first), (long, last) = (
         best(program, [question, str(VARIABLES), str(TERMS), str(rounds)], folder) for rounds in (few, many))
     return (long - short) / ((many - few) * terms) * 1e9, (first, last)
+
+
+def closing(program, folder):
+    """Processor seconds to close the box once, by the difference of two numbers of rounds."""
+    taken = []
+    for rounds in ROUNDS:
+        seconds, printed = least(program, ["close", str(VARIABLES), str(CLOSED), str(rounds)], folder)
+        if printed != f"checksum {rounds * GREATEST}\n".encode():
+            sys.exit(f"close: {rounds} rounds print {printed}")
+        taken.append(seconds)
+    return (taken[1] - taken[0]) / (ROUNDS[1] - ROUNDS[0])
 
 
 def main():
@@ -39,6 +52,7 @@ def main():
             if printed != expected:
                 sys.exit(f"{question}: the two programs print {printed} and {expected}")
             table.append(f"| `{question}` | {terms:,} | {here:.2f} | {there:.2f} | {here / there:.2f} |")
+        closed = closing(proved, folder)
         rust = subprocess.run(["rustc", "--version"], capture_output=True, text=True).stdout.split(" (")[0]
     text = f"""## A term of the model
 
@@ -49,10 +63,14 @@ same sums.
 
 | Call | Terms a call | ns a term, proved | ns a term, Rust with checks | Proved over Rust |
 |---|---|---|---|---|
-""" + "\n".join(table) + """
+""" + "\n".join(table) + f"""
 
 `feasible` looks at the rows in order and stops at the first one that doesn't hold; `value` reads the objective's terms.
 Both take no memory, and both grow with the written terms alone.
+
+`closed_box` of a model with {CLOSED:,} terms in {CLOSED // 20:,} rows, {VARIABLES:,} variables and 32 rounds that each close one
+bound: {closed:.3f} s a call (asked: under 0.1 s). These are seconds of the user's part of the processor, by the
+difference between {ROUNDS[0]} and {ROUNDS[1]} calls. The rows that close nothing have the variable that is closed last.
 """
     put("model", text)
     print(text)

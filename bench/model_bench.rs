@@ -1,4 +1,4 @@
-//! The loops of `model_bench` in plain Rust with `checked_` arithmetic: the same words, the same model, the same checksum.
+//! The loops of `model_bench feasible|value` in plain Rust with `checked_` arithmetic: the same words, model, checksum.
 use std::hint::black_box;
 use std::process::ExitCode;
 

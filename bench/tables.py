@@ -2,6 +2,7 @@
 import os
 import pathlib
 import platform
+import resource
 import shutil
 import subprocess
 import sys
@@ -37,6 +38,19 @@ def seconds_and_text(program, words, folder, given=os.devnull):
 def best(program, words, folder, runs=3, given=os.devnull):
     """The least wall clock time of some runs, and what the last one printed."""
     results = [seconds_and_text(program, words, folder, given) for _ in range(runs)]
+    return min(r[0] for r in results), results[-1][1]
+
+
+def spent(program, words, folder, given=os.devnull):
+    """Runs the program once: the seconds of the user's part of the processor, and its standard output."""
+    before = resource.getrusage(resource.RUSAGE_CHILDREN).ru_utime
+    _, text = seconds_and_text(program, words, folder, given)
+    return resource.getrusage(resource.RUSAGE_CHILDREN).ru_utime - before, text
+
+
+def least(program, words, folder, runs=3, given=os.devnull):
+    """The least seconds of the user's part of the processor in some runs, and what the last one printed."""
+    results = [spent(program, words, folder, given) for _ in range(runs)]
     return min(r[0] for r in results), results[-1][1]
 
 

@@ -3,13 +3,15 @@ use anyhow::{Context, Result, bail};
 use std::env;
 use std::rt::Env;
 
-/// What is asked of each point.
+/// What is asked.
 #[derive(Clone, Copy, PartialEq, Eq, Debug)]
 pub enum Question {
-    /// Whether it is feasible.
+    /// Whether a point is feasible.
     Feasible,
-    /// What its objective is worth.
+    /// What the objective is worth at a point.
     Value,
+    /// Which box the rows close.
+    Close,
 }
 
 /// How large the model is, and how often it is asked.
@@ -17,13 +19,13 @@ pub enum Question {
 pub struct Sizes {
     /// The number of variables.
     pub variables: u32,
-    /// The number of terms in all rows; each row has all variables.
+    /// The number of terms in all rows; a row has all variables, or 20 of them where a box is closed.
     pub terms: u32,
-    /// How many points are asked about.
+    /// How often it is asked.
     pub rounds: u64,
 }
 
-/// Reads the words `feasible|value VARIABLES TERMS ROUNDS`.
+/// Reads the words `feasible|value|close VARIABLES TERMS ROUNDS`.
 pub fn question_and_sizes<R: Env + AllocGlobal>(rt: &R) -> Result<(Question, Sizes)> {
     let mut words = env::args(rt)?.skip(1);
     let (Some(question), Some(variables), Some(terms), Some(rounds), None) = (
@@ -33,12 +35,13 @@ pub fn question_and_sizes<R: Env + AllocGlobal>(rt: &R) -> Result<(Question, Siz
         words.next(),
         words.next(),
     ) else {
-        bail!("usage: model_bench feasible|value VARIABLES TERMS ROUNDS");
+        bail!("usage: model_bench feasible|value|close VARIABLES TERMS ROUNDS");
     };
     let question = match question.as_str() {
         "feasible" => Question::Feasible,
         "value" => Question::Value,
-        _ => bail!("the question is neither feasible nor value"),
+        "close" => Question::Close,
+        _ => bail!("the question is none of feasible, value and close"),
     };
     let sizes = Sizes {
         variables: variables.parse::<u32>().context("reading VARIABLES")?,

@@ -69,7 +69,8 @@ same sums.
 Both take no memory, and both grow with the written terms alone.
 
 `closed_box` of a model with {CLOSED:,} terms in {CLOSED // 20:,} rows, {VARIABLES:,} variables and 32 rounds that each close one
-bound: {closed:.3f} processor seconds a call, the difference between {ROUNDS[0]} and {ROUNDS[1]} calls. The rows that close nothing have the variable that is closed last.
+bound: {closed:.3f} processor seconds a call, the difference between {ROUNDS[0]} and {ROUNDS[1]} calls. The rows that
+close nothing have the variable that is closed last.
 """
     put("model", text)
     print(text)

@@ -11,6 +11,8 @@ pub enum Order {
     ByCursor,
     /// A random one, with each box from the tree.
     FromTree,
+    /// That of a run to the optimum, whose whole tree is told.
+    Told,
 }
 
 /// How a model is searched.
@@ -79,11 +81,13 @@ pub fn small(words: &mut SplitWhitespace<'_>) -> u32 {
     u32::try_from(number(words)).unwrap_or(u32::MAX)
 }
 
-/// The usual order for 0, a random one with a cursor for 1, and one without for all other numbers.
+/// The usual order for 0 and, with its tree, for 3; a random one with a cursor for 1, and one without for all other
+/// numbers.
 fn order_of(number: i64) -> Order {
     match number {
         0 => Order::Usual,
         1 => Order::ByCursor,
+        3 => Order::Told,
         _ => Order::FromTree,
     }
 }

@@ -1,6 +1,6 @@
 //! `search_bench` makes the model of the lines of standard input, searches it as the first of them says, and prints how
-//! that ended, and the whole tree of a search in random order. src/inputs.rt and src/models.rt say what lines there
-//! are. The scripts `scripts/compare_search.py` and `bench/search.py` run it.
+//! that ended, and the whole tree where the task asks for it. src/inputs.rt and src/models.rt say what lines there are.
+//! The scripts `scripts/compare_search.py` and `bench/search.py` run it.
 #![tactic(auto)]
 
 mod inputs;

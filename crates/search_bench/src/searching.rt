@@ -5,6 +5,7 @@ ghost use Rattle.sp_cover.specs.Cover.{IsOpenAt};
 ghost use Rattle.sp_search.specs.States.{HasCursor};
 
 use crate::inputs::{Order, Task};
+use sp_advice::NO_HINTS;
 use sp_cursor::Cursor;
 use sp_model::NoMemory;
 use sp_search::{Goal, OptEnd, State, optimize, step};
@@ -50,7 +51,7 @@ fn random_leaf(tree: &Tree, random: u64) -> Option<NodeId>
     }
 }
 
-/// Works on open leaves in a random order until none is left, or one can't be worked on within the limit.
+/// Works without hints on open leaves in a random order until none is left, or one can't be worked on within the limit.
 fn take_steps(state: &mut State, cursor: &mut Option<Cursor>, task: &Task) -> Result<(), NoMemory>
     requires { HasCursor state.old cursor.old }
 {
@@ -58,7 +59,8 @@ fn take_steps(state: &mut State, cursor: &mut Option<Cursor>, task: &Task) -> Re
         match random_leaf(state.tree(), random_of(task.seed, round)) {
             None => return Ok(()),
             Some(node) => {
-                if step(state, cursor, node, &Goal::Improve, task.limit)?.is_full() {
+                let stepped = step(state, cursor, &NO_HINTS, node, &Goal::Improve, task.limit)?;
+                if stepped.is_full() {
                     return Ok(());
                 }
             }
@@ -98,7 +100,7 @@ fn search_at_random(state: &mut State, task: &Task) -> Result<(), NoMemory> {
 /// Searches as the task says, and answers how that ended.
 pub fn search(state: &mut State, task: &Task) -> Result<OptEnd, NoMemory> {
     match task.order {
-        Order::Usual => return optimize(state, task.limit),
+        Order::Usual | Order::Told => return optimize(state, task.limit),
         _ => search_at_random(state, task)?,
     }
     Ok(end_of(state))

@@ -4,13 +4,16 @@ a random order, and for each run whether what the tree says is so.
 
 usage: scripts/compare_search.py [MODELS [SEED]]      after search_bench was built, by 'rt run' in crates/search_bench
 
-Each model is searched in the usual order, in a random one with a cursor, and in a random one with each box from the
-tree. Checked of each run: the optimum, by a walk over all points, and that a run which stopped had no room. Checked of
-each tree: that the splits are lawful, so that the leaves' boxes divide the model's; that no split box has a reason;
-each leaf's claim (the first reason of its box, the exact number of its list, its point); that no node has a mark; that
-the table is that of the stated lists; that the found points are feasible, have their values, fall, and have one leaf
-each; and that where a run stopped an open leaf is left that nothing closes. Status 0 where there is no fault, else 1.
-It stands beside the gate, and builds nothing.
+Each model is searched in the usual order, in a random one with a cursor, in a random one with each box from the tree,
+and in the usual order once more with its tree told, which must end as the first run did. The runs in the usual order
+ask the finder, and those in a random one don't. Checked of each run: the optimum, by a walk over all points, and that a
+run which stopped had no room. Checked of each tree: that the splits are lawful, so that the leaves' boxes divide the
+model's; that no split box has a reason; each leaf's claim (the first reason of its box, the exact number of its list,
+which is no better than the best value, its point); that no node has a mark; that the table is that of the stated lists,
+with lists behind them only where the finder was asked, each of them well formed and none twice; that the found points
+are feasible, have their values, fall, and have one leaf each; and that where a run stopped an open leaf is left that
+neither a reason nor a stated list closes. Status 0 where there is no fault, else 1. It stands beside the gate, and
+builds nothing. SEARCH_BENCH names another program to run.
 """
 import itertools
 import os
@@ -23,7 +26,9 @@ import sys
 TOP = pathlib.Path(__file__).resolve().parent.parent
 PROGRAM = pathlib.Path(os.environ.get("SEARCH_BENCH", TOP / "crates" / "search_bench" / "out" / "search_bench"))
 MOST_STATED = 64
+MOST_ENTRIES = 10_000
 MOST_POINTS = 3000
+TOLD_USUAL = 3
 BITS = 127
 SPLIT = re.compile(r"Split \{ var: VarId\((\d+)\), at: (-?\d+), left: NodeId\((\d+)\), right: NodeId\((\d+)\) \}$")
 BOUNDED = re.compile(r"Bounded\(Bound \{ by: (\d+), least: (-?\d+) \}\)$")
@@ -54,8 +59,11 @@ class Model:
         gates, sets = rng.choice([0, 0, 2]), rng.choice([0, 0, 2])
         self.gates = [(rng.choice(switches), rng.randint(0, 1), self.row()) for _ in range(gates if switches else 0)]
         self.sets = [(rng.randint(1, 2), rng.sample(number, rng.randint(0, len(number)))) for _ in range(sets)]
-        if rng.random() < 0.3:
+        kind = rng.random()
+        if kind < 0.3:
             self.make_packing()
+        elif kind < 0.45:
+            self.make_groups()
         without_core = [j for j in range(len(self.ranges)) if j not in {core[0] for core in self.cores}]
         if without_core and rng.random() < 0.02:
             self.ranges[rng.choice(without_core)] = (1, 0)
@@ -69,6 +77,20 @@ class Model:
         for _ in range(rng.randint(1, 3)):
             terms = {j: rng.randint(1, 30) for j in number if rng.random() < 0.8}
             self.rows.append((None, sum(terms.values()) // rng.randint(2, 3), terms))
+
+    def make_groups(self):
+        """Binaries of equal gains, and for each group of them a row that takes a few: only all rows at once tell what
+        all of them gain."""
+        rng = self.rng
+        groups = [rng.randint(2, 5) for _ in range(rng.randint(2, 3))]
+        number = range(min(11, sum(groups)))
+        self.ranges, self.cores, self.gates, self.sets = [(0, 1) for _ in number], [], [], []
+        gain, weight, begin = rng.randint(1, 3), rng.randint(2, 5), 0
+        self.cost, self.rows = {j: -gain for j in number}, []
+        for size in groups:
+            terms = {j: weight for j in number[begin:begin + size]}
+            self.rows.append((None, weight * size // 2 + rng.randint(0, 1), terms))
+            begin += size
 
     def count(self):
         """How many points the ranges have."""
@@ -244,10 +266,24 @@ def is_stuck(model, box, seen):
             and not any(n is not None and seen.best is not None and n >= seen.best for n in numbers))
 
 
-def check_tree(model, seen):
-    """Goes through the tree; answers the boxes of the open leaves."""
+def check_table(model, lists, may_grow):
+    """The stated lists stand first, in their order; those behind them, if there may be any, are well formed."""
+    stated = model.stated()
+    assert lists[:len(stated)] == stated, "other lists than the stated ones"
+    assert may_grow or len(lists) == len(stated), "a list that nobody asked for"
+    assert len(set(lists)) == len(lists), "a list that stands twice in the table"
+    for divisor, entries in lists[len(stated):]:
+        rows = [i for i, _ in entries]
+        assert divisor >= 1 and len(entries) <= MOST_ENTRIES, "a divisor of 0, or too many entries"
+        assert all(before < behind for before, behind in zip(rows, rows[1:])), "rows that don't rise"
+        assert all(i < len(model.rows) and y != 0 for i, y in entries), "a row that isn't there, or an entry of 0"
+
+
+def check_tree(model, seen, may_grow):
+    """Goes through the tree, whose table may have more lists than the stated ones or not; answers the boxes of the open
+    leaves."""
     assert len(seen.kinds) == seen.size and set(seen.marks) == {"None"}, "another number of nodes, or a mark"
-    assert seen.lists == model.stated(), "other lists than the stated ones"
+    check_table(model, seen.lists, may_grow)
     for (point, value), earlier in zip(seen.found, [None, *seen.found]):
         assert model.is_feasible(point) and model.value(point) == value, "a point that isn't feasible, or another value"
         assert earlier is None or value < earlier[1], "a found value that doesn't fall"
@@ -278,7 +314,7 @@ def check(model, optimum, order, limit, text):
     """Whether what a run printed is so; fails where it isn't. Answers what it printed."""
     seen = Seen(text)
     assert seen.size <= max(limit, 1) and seen.size % 2, "more nodes than the limit"
-    still_open = check_tree(model, seen) if order else None
+    still_open = check_tree(model, seen, order == TOLD_USUAL) if order else None
     if seen.end == "NodeLimit":
         assert seen.size + 2 > limit, "a stop with room"
         assert still_open is None or any(is_stuck(model, box, seen) for box in still_open), "a stop without a cause"
@@ -289,13 +325,28 @@ def check(model, optimum, order, limit, text):
     return seen
 
 
-def word_of(kind):
-    """What a node is, in a word: of a dead one its reason, of a bounded one whether its list has entries."""
+def word_of(kind, stated):
+    """What a node is, in a word: of a dead one its reason, of a bounded one whether its list is the one without
+    entries, another one of so many stated lists, or a list behind them."""
     if DEAD.match(kind):
         return DEAD.match(kind).group(1).split("(")[0]
     if BOUNDED.match(kind):
-        return "Bounded by a row" if int(BOUNDED.match(kind).group(1)) else "Bounded"
+        by = int(BOUNDED.match(kind).group(1))
+        return "Bounded" if by == 0 else "Bounded by a row" if by < stated else "Bounded by the finder"
     return re.split("[ (]", kind)[0]
+
+
+def run(text):
+    """What the program prints of a task and a model."""
+    done = subprocess.run([str(PROGRAM)], input=text, capture_output=True, text=True, check=False)
+    assert done.returncode == 0, f"status {done.returncode}: {done.stderr}"
+    return done.stdout
+
+
+def tasks(rng):
+    """An order, a limit and a seed for each run of a model; the limits of both runs in the usual order are the same."""
+    limits = [rng.choice([1, 5, 20, 100000, 100000]) for _ in range(TOLD_USUAL)]
+    return [(order, limit, rng.randrange(1 << 32)) for order, limit in enumerate([*limits, limits[0]])]
 
 
 def main():
@@ -306,20 +357,21 @@ def main():
     rng, ends, leaves, faults = random.Random(seed), {}, {}, 0
     for number in range(count):
         model = Model(rng)
-        optimum = model.optimum()
-        for order in range(3):
-            limit = rng.choice([1, 5, 20, 100000, 100000])
-            text = f"{order} {limit} {rng.randrange(1 << 32)}\n{model.lines()}"
-            done = subprocess.run([str(PROGRAM)], input=text, capture_output=True, text=True, check=False)
+        optimum, stated, first_lines = model.optimum(), len(model.stated()), {}
+        for order, limit, start in tasks(rng):
+            text, printed = f"{order} {limit} {start}\n{model.lines()}", ""
             try:
-                assert done.returncode == 0, f"status {done.returncode}: {done.stderr}"
-                seen = check(model, optimum, order, limit, done.stdout)
+                printed = run(text)
+                seen = check(model, optimum, order, limit, printed)
+                first_lines[order] = printed.splitlines()[0]
+                assert order != TOLD_USUAL or first_lines[order] == first_lines[0], "another end than untold"
                 ends[seen.end] = ends.get(seen.end, 0) + 1
-                for word in map(word_of, seen.kinds):
+                for kind in seen.kinds:
+                    word = word_of(kind, stated)
                     leaves[word] = leaves.get(word, 0) + 1
-            except (AssertionError, AttributeError, IndexError) as fault:
+            except (AssertionError, AttributeError, IndexError, KeyError) as fault:
                 faults += 1
-                print(f"model {number}: {fault!r}\n{text}{done.stdout}")
+                print(f"model {number}: {fault!r}\n{text}{printed}")
     print("ends: " + ", ".join(f"{word} {n}" for word, n in sorted(ends.items())))
     print("nodes: " + ", ".join(f"{word} {n}" for word, n in sorted(leaves.items())))
     print(f"{count} models, {sum(ends.values()) + faults} runs, {faults} faults")

@@ -8,7 +8,7 @@ ghost use Rattle.sp_populate.specs.Complete.{CanRun};
 use crate::filtering::{add, remove};
 use crate::inputs::{Kind, gap_at, kind_of, name_of, numbers_of, small_at};
 use crate::making::{diversity_of, parts_of, range_of};
-use crate::showing::{show_count, show_end, show_list, show_tree};
+use crate::showing::{show_count, show_end, show_list, show_tree, show_value};
 use anyhow::{Result, anyhow, bail};
 use sp_filter::{FilterDraft, Filters};
 use sp_model::{Gap, Gaps, Model, ModelParts, NoMemory};
@@ -43,8 +43,9 @@ fn begun(alloc: Global, model: Model) -> Result<State>
 /// with unlimited gaps; `cost C ..`, with the cost of each variable, and `row LO HI J A ..`, with two sides and a
 /// variable and its coefficient for each term, stand behind it, and `-` is no side. `gaps ABS REL` sets both gaps, `-`
 /// for an unlimited one; `range NAME LO HI J A ..`, `diversity NAME LO HI J W REF ..` and `remove NAME` change the
-/// filters; `optimize NODES`, `populate NODES FOUND` and `nbest K NODES` run, `-` for no limit; `list` and `count` list
-/// the points, `count` without their serials; and `tree` prints all nodes and found points.
+/// filters; `optimize NODES`, `populate NODES FOUND` and `nbest K NODES` run, `-` for no limit; `value` prints the best
+/// value that was found; `list` and `count` list the points, `count` without their serials; and `tree` prints all nodes
+/// and found points.
 pub fn run_all<P: Print>(rt: &P, alloc: Global, lines: &[String]) -> Result<()> {
     for place in 0..lines.len() {
         if kind_of(lines[place].as_str()) == Kind::Model {
@@ -103,6 +104,7 @@ fn carry_out<P: Print>(
         }
         Kind::Optimize | Kind::Populate | Kind::Best => run(rt, alloc, state, gaps, filters, line),
         Kind::List | Kind::Count => tell_list(rt, alloc, state, gaps, filters, line),
+        Kind::Value => show_value(rt, state),
         Kind::Tree => show_tree(rt, alloc, state),
         _ => Ok(()),
     }

@@ -30,6 +30,24 @@ pub fn show_end<P: Print>(rt: &P, state: &State, end: &str) -> Result<()> {
     Ok(())
 }
 
+/// The value of the best point that was found.
+fn best_value(state: &State) -> Option<i128> {
+    match state.best() {
+        None => None,
+        Some(serial) => match state.found().get((serial as usize).wrapping_sub(1)) {
+            None => None,
+            Some(found) => Some(found.value),
+        },
+    }
+}
+
+/// Prints the best value that was found.
+pub fn show_value<P: Print>(rt: &P, state: &State) -> Result<()> {
+    let value = best_value(state);
+    println!(rt; "value {value:?}")?;
+    Ok(())
+}
+
 /// Prints how many points are listed, and the serial of each.
 pub fn show_list<P: Print>(rt: &P, serials: &[u32]) -> Result<()> {
     let count = serials.len();

@@ -13,9 +13,9 @@ from families import Binary, assignment, demo, halves, queens
 from tables import built, machine, peak, put, seconds_and_text
 
 LIMIT = 2_000_000
-MOST_RUNS = 100
+MOST_RUNS = 2000
 LEAST_RUNS = 3
-MOST_SECONDS = 5
+MOST_SECONDS = 9
 LEAST = 0.001
 
 
@@ -52,25 +52,30 @@ def lines_of(model):
     return "\n".join(lines) + "\n"
 
 
-def least(program, folder, given):
-    """The least processor seconds of some runs, fewer of them where a run is long, and what the last one printed."""
-    taken, printed, begun = [], b"", time.monotonic()
+def spent(program, folder, given):
+    """The processor seconds of a run, and what it printed."""
+    before = resource.getrusage(resource.RUSAGE_CHILDREN)
+    _, printed = seconds_and_text(program, [], folder, given)
+    after = resource.getrusage(resource.RUSAGE_CHILDREN)
+    return after.ru_utime + after.ru_stime - before.ru_utime - before.ru_stime, printed
+
+
+def least(program, folder, files):
+    """Of each file the least processor seconds of some runs, fewer of them where a run is long, and what the last one
+    printed. The files are run in turn, so that all of them meet the same times of a machine."""
+    taken, begun = [], time.monotonic()
     while len(taken) < LEAST_RUNS or (len(taken) < MOST_RUNS and time.monotonic() - begun < MOST_SECONDS):
-        before = resource.getrusage(resource.RUSAGE_CHILDREN)
-        _, printed = seconds_and_text(program, [], folder, given)
-        after = resource.getrusage(resource.RUSAGE_CHILDREN)
-        taken.append(after.ru_utime + after.ru_stime - before.ru_utime - before.ru_stime)
-    return min(taken), printed
+        taken.append([spent(program, folder, given) for given in files])
+    return [(min(seconds for seconds, _ in runs), runs[-1][1]) for runs in zip(*taken)]
 
 
 def row_of(program, folder, model, limit):
     """Runs a model, and answers its row of the table."""
-    given = pathlib.Path(folder, "lines")
+    first, given = pathlib.Path(folder, "first"), pathlib.Path(folder, "lines")
     text = lines_of(model)
-    given.write_text("0 1 0\n" + text)
-    begun, _ = least(program, folder, given)
+    first.write_text("0 1 0\n" + text)
     given.write_text(f"0 {limit} 0\n" + text)
-    seconds, printed = least(program, folder, given)
+    (begun, _), (seconds, printed) = least(program, folder, [first, given])
     end, value, nodes = re.match(rb"(\w+) best (?:Some\()?(-?\w+)\)? nodes (\d+)", printed).groups()
     each = f"{(seconds - begun) / int(nodes) * 1e9:,.0f}" if seconds - begun >= LEAST else "-"
     held = peak(program, [], folder, given=given)
@@ -97,7 +102,11 @@ models with many variables and few terms a row.
 
 | Model | End and best value | Nodes | Processor seconds | ns a node | Peak memory, MiB |
 |---|---|---|---|---|---|
-""" + "\n".join(lines) + "\n")
+""" + "\n".join(lines) + """
+
+Most of the time of the 200 binaries is the finder's. For the model of 2,000, which has more rows times variables than
+the finder takes, there is none, and a node costs what its short columns do.
+""")
 
 
 if __name__ == "__main__":

@@ -11,6 +11,7 @@ pub mod NumeralFrontsLemmas
 pub mod NumeralLeftLemmas
 pub mod OneListLemmas
 pub mod PieceLemmas
+pub mod RestLemmas
 pub mod SomeListLemmas
 pub mod SymbolFrontsLemmas
 pub mod TokenLemmas

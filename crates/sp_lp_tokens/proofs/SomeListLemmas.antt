@@ -25,7 +25,7 @@ use Rattle.sp_lp_tokens.specs.Tokens.{IsNextToken, Ending, Complete, Faulty, Tok
 use Rattle.sp_lp_tokens.proofs.GapLemmas.{gap_length-drop_all}
 use Rattle.sp_lp_tokens.proofs.NextLemmas.{IsGapAt, token_is_next, fault_is_next}
 use Rattle.sp_lp_tokens.proofs.NumberLemmas.{number_is_numeral}
-use Rattle.sp_lp_tokens.proofs.TokenLemmas.{next_lies_behind, complete_at, fault_at, token_first, token_last}
+use Rattle.sp_lp_tokens.proofs.TokenLemmas.{next_lies_behind, complete_at, fault_at, token_first}
 
 -- a longest front, sought from the longest on
 longest_from : (test : List ℕ → Bool) (bytes : List ℕ) (m : ℕ) → m ≤ length bytes → ((k : ℕ) → m < k → k ≤ length bytes → test (take k bytes) ≡ false) → (n : ℕ) × IsLongest test bytes n
@@ -101,8 +101,8 @@ SomeTokens source place line_before = (ts : List Token) × (ending : Ending) × 
 -- a token, and what is left behind it
 with_token : (source : List ℕ) (place line_before : ℕ) (t : Token) → IsNextToken source place t → SomeTokens source t.end t.line → SomeTokens source place line_before
 with_token source place line_before t h rest = ⊎_elim
-    (λ last. (t ∷ [], Complete, token_last source place line_before t h last))
-    (λ more. (t ∷ rest.0, rest.1, token_first source place line_before t rest.0 rest.1 h more rest.2))
+    (λ last. (t ∷ [], Complete, token_first source place line_before t [] Complete h (rw last (refl, refl))))
+    (λ more. (t ∷ rest.0, rest.1, token_first source place line_before t rest.0 rest.1 h (rw more rest.2)))
     (cases_Bool (ends_list source line_before t))
 
 -- so many bytes are left at most

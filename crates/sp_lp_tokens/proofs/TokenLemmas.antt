@@ -72,14 +72,10 @@ pub fault_at : (source : List ℕ) (place line_before line : ℕ) (kind : TokenK
 unfolding TokensFrom
 fault_at source place line_before line kind h = h
 
-pub token_first : (source : List ℕ) (place line_before : ℕ) (t : Token) (ts : List Token) (ending : Ending) → IsNextToken source place t → ends_list source line_before t ≡ false → TokensFrom source t.end t.line ts ending →
+pub token_first : (source : List ℕ) (place line_before : ℕ) (t : Token) (ts : List Token) (ending : Ending) → IsNextToken source place t → Onward (ends_list source line_before t) ts ending (TokensFrom source t.end t.line ts ending) →
     TokensFrom source place line_before (t ∷ ts) ending
 unfolding TokensFrom
-token_first source place line_before t ts ending h goes_on rest = (h, rw goes_on rest)
-
-pub token_last : (source : List ℕ) (place line_before : ℕ) (t : Token) → IsNextToken source place t → ends_list source line_before t ≡ true → TokensFrom source place line_before (t ∷ []) Complete
-unfolding TokensFrom
-token_last source place line_before t h last = (h, rw last (refl, refl))
+token_first source place line_before t ts ending h behind = (h, behind)
 
 -- the tokens of a list stand in order, within the file
 pub tokens_in_order : (source : List ℕ) (ts : List Token) (place line_before : ℕ) (ending : Ending) → place ≤ length source → TokensFrom source place line_before ts ending → AreInOrder place ts (length source)

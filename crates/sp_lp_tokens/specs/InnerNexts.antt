@@ -2,17 +2,22 @@
 use Rattle.std.specs.Prelude.{◌≡◌, ℕ, ◌+◌, false, List, length, drop}
 use Rattle.sp_lp_tokens.specs.declared.reading.Next.{Next}
 use Rattle.sp_lp_tokens.specs.declared.reading.Next.TheVariants as nexts
+use Rattle.sp_lp_tokens.specs.declared.reading.Rest.{Rest}
 use Rattle.sp_lp_tokens.specs.declared.token_types.Token.{Token}
 use Rattle.sp_lp_tokens.specs.declared.token_types.TokenRefusal.{TokenRefusal}
 use Rattle.sp_lp_tokens.specs.declared.token_types.TokenRefusal.TheVariants as refusals
 use Rattle.sp_lp_tokens.specs.Gaps.{gap_length}
-use Rattle.sp_lp_tokens.specs.Tokens.{IsNextToken, IsNextFault, IsFirstFault, Ending, Complete, Faulty}
+use Rattle.sp_lp_tokens.specs.Tokens.{IsNextToken, IsNextFault, IsFirstFault, Ending, Complete, Faulty, ends_list}
 
 -- what is left from the place on begins so
 abbrev pub IsNext : List ℕ → ℕ → Next → Type 0
 IsNext source place nexts.Nothing = place + gap_length false (drop place source) ≡ length source
 IsNext source place (nexts.Fault line kind) = IsNextFault source place line kind
 IsNext source place (nexts.Token t) = IsNextToken source place t
+
+-- what is left behind the token
+abbrev pub rest_behind : List ℕ → ℕ → Token → Rest
+rest_behind source line_before t = record { place = t.end; line = t.line; line_before = t.line; ended = ends_list source line_before t }
 
 -- the cause of a refusal: the first fault of the file; want of memory needs none
 abbrev pub IsRefusal : List ℕ → TokenRefusal → Type 0

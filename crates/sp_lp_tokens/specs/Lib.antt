@@ -5,6 +5,7 @@ pub mod InnerPieces
 pub mod InnerSymbolHeads
 pub mod Limits
 pub mod Longest
+pub mod Rests
 pub mod SeenTokens
 pub mod Texts
 pub mod Tokens

@@ -14,7 +14,7 @@ mod token_laws;
 mod token_tests;
 mod token_types;
 
-pub use reading::tokens;
+pub use reading::{Next, Rest, next_token, tokens};
 pub use symbols::Symbol;
 pub use token_laws::{files_have_tokens, gaps_are_longest, tokens_are_unique};
 pub use token_types::{Token, TokenKind, TokenKindFault, TokenRefusal};

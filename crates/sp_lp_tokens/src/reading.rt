@@ -4,7 +4,8 @@ ghost use Rattle.std.specs.Prelude.{◌≡◌, ℕ, ◌≤◌, List, length, dro
 ghost use Rattle.sp_lp_tokens.specs.Gaps.{line_at};
 ghost use Rattle.sp_lp_tokens.specs.Tokens.{AreTokens, AreInOrder, IsSpan, Ending, TokensFrom, is_end_word, colon_follows, ends_list};
 ghost use Rattle.sp_lp_tokens.specs.declared.token_types.Token.{Token};
-ghost use Rattle.sp_lp_tokens.specs.InnerNexts.{IsNext, IsRefusal, IsListOf, IsRefusalOf};
+ghost use Rattle.sp_lp_tokens.specs.Rests.{whole, IsRest, IsTaken};
+ghost use Rattle.sp_lp_tokens.specs.InnerNexts.{IsNext, rest_behind, IsRefusal, IsListOf, IsRefusalOf};
 
 use crate::gaps::{gap_before, is_blank};
 use crate::pieces::piece_at;
@@ -13,14 +14,42 @@ use sp_decimal::Numeral;
 use std::alloc::Global;
 
 /// What comes next in a file.
-#[derive(Clone, Copy)]
-pub(crate) enum Next {
-    /// Nothing but blanks, line feeds and comments.
+#[derive(Clone, Copy, PartialEq, Eq, Debug)]
+pub enum Next {
+    /// Nothing: what is left are blanks, line feeds and comments, or the list of tokens has ended.
     Nothing,
-    /// A fault, in this line.
+    /// A fault, in this line, from 1.
     Fault(u32, TokenKindFault),
     /// A token.
     Token(Token),
+}
+
+/// What is left of a file's tokens.
+#[derive(Clone, Copy, PartialEq, Eq, Debug)]
+pub struct Rest {
+    /// The place behind the tokens that were taken, in bytes from 0.
+    pub place: usize,
+    /// The line of that place, from 1.
+    pub line: u32,
+    /// The line of the last token that was taken, 0 before the first one.
+    pub line_before: u32,
+    /// Whether the list of tokens has ended with that token.
+    pub ended: bool,
+}
+
+impl Rest {
+    /// All tokens of a file.
+    pub fn whole() -> Rest
+        ensures whole { result ≡ whole }
+        ensures rest { (source : List ℕ) → IsRest source result }
+    {
+        Rest {
+            place: 0,
+            line: 1,
+            line_before: 0,
+            ended: false,
+        }
+    }
 }
 
 /// The bytes from a place on.
@@ -87,9 +116,44 @@ fn ends_list(source: &[u8], line_before: u32, token: &Token) -> bool
         && !colon_follows(rest_of(source, token.end as usize))
 }
 
-/// The tokens of a file in the CPLEX LP format, of at most 2^26 bytes, in their order and by longest match. The list ends with
-/// the word `end`, in any case, where it is the first token of its line and no colon follows it there; what comes later isn't
-/// read. `Fault` tells the first fault of the file with its line; `NoMemory` comes where the list can't grow.
+/// What is left behind the token; the token before stands in the line `line_before`.
+fn rest_behind(source: &[u8], line_before: u32, token: &Token) -> Rest
+    requires rising { token.now.start ≤ token.now.end }
+    requires within { token.now.end ≤ length source.now }
+    ensures { result ≡ rest_behind source.now line_before token.now }
+{
+    Rest {
+        place: token.end as usize,
+        line: token.line,
+        line_before: token.line,
+        ended: ends_list(source, line_before, token),
+    }
+}
+
+/// Takes the next token of a file in the CPLEX LP format, of at most 2^26 bytes, by longest match. The list of tokens ends
+/// with the word `end`, in any case, where it is the first token of its line and no colon follows it there; what comes
+/// later isn't read. At a fault, and where nothing comes, the rest stays. It takes no memory.
+pub fn next_token(source: &[u8], rest: &mut Rest) -> Next
+    requires small { length source.now ≤ most_bytes }
+    requires rest { IsRest source.now rest.old }
+    ensures left { IsRest source.now rest.new }
+    ensures taken { IsTaken source.now rest.old rest.new result }
+{
+    if rest.ended {
+        return Next::Nothing;
+    }
+    match next_at(source, rest.place, rest.line) {
+        Next::Nothing => Next::Nothing,
+        Next::Fault(line, kind) => Next::Fault(line, kind),
+        Next::Token(token) => {
+            *rest = rest_behind(source, rest.line_before, &token);
+            Next::Token(token)
+        }
+    }
+}
+
+/// The tokens of a file in the CPLEX LP format, of at most 2^26 bytes, in their order: those that [`next_token`] takes.
+/// `Fault` tells the first fault of the file with its line; `NoMemory` comes where the list can't grow.
 pub fn tokens(alloc: Global, bytes: &[u8]) -> Result<Vec<Token>, TokenRefusal>
     requires { length bytes.now ≤ most_bytes }
     ensures found { IfOk result (λ tokens. AreTokens bytes.now tokens.items) }
@@ -105,23 +169,15 @@ pub fn tokens(alloc: Global, bytes: &[u8]) -> Result<Vec<Token>, TokenRefusal>
     // Without a mention of the enums within a token, the prover makes no plan for a loop that carries tokens.
     let _held: Option<(TokenKind, Numeral)> = None;
     let mut tokens = Vec::new(alloc);
-    let mut place = 0;
-    let mut line = 1;
-    let mut line_before = 0;
+    let mut rest = Rest::whole();
     loop {
-        match next_at(bytes, place, line) {
+        match next_token(bytes, &mut rest) {
             Next::Nothing => return Ok(tokens),
             Next::Fault(line, kind) => return Err(TokenRefusal::Fault { line, kind }),
             Next::Token(token) => {
                 if tokens.push(token).is_err() {
                     return Err(TokenRefusal::NoMemory);
                 }
-                if ends_list(bytes, line_before, &token) {
-                    return Ok(tokens);
-                }
-                place = token.end as usize;
-                line = token.line;
-                line_before = token.line;
             }
         }
     }

@@ -14,7 +14,7 @@ use Rattle.sp_lp.specs.Refusals.{IsListRefusal, refusal_of, IsRefused}
 use Rattle.sp_lp.specs.InnerKinds.{fault_kind}
 use Rattle.sp_lp.specs.InnerAnswers.{refusal_by, IsOnlyAnswer}
 use Rattle.sp_lp.proofs.KindLemmas.{Readers, refusal_is}
-use Rattle.sp_lp.specs.Walks.{IsStop, IsReading, IsUnfinished, outcome_at}
+use Rattle.sp_lp.specs.Walks.{IsStop, IsReading, IsReadingOf, IsUnfinished, outcome_at}
 
 -- what the laws on readers, on fronts and on drafts say
 pub record Laws : Type 0 where
@@ -116,3 +116,10 @@ no_tokens one bytes line kind f r = λ d g. absurd (not_both line kind (one byte
 
 pub token_refused : (bytes : List ℕ) (line : ℕ) (kind : TokenKindFault) (r : ReadRefusal) → IsFirstFault bytes line kind → r ≡ refusal_of kind line → (r ≡ NoMemory) ⊎ IsRefused bytes r
 token_refused bytes line kind r f e = inr (inl (record { line = line; kind = kind; is_fault = f; refusal_is = e }))
+
+-- the answer of a file that is read as its tokens come
+pub read_says : Laws → (bytes : List ℕ) (d : Draft) → IsReadingOf bytes d → LpOf bytes d
+read_says laws bytes d h = record { tokens = h.tokens; are_tokens = h.are_tokens; says = found_draft laws (all_seen bytes h.tokens) d h.reading }
+
+pub read_only : Laws → OneList → (bytes : List ℕ) (d : Draft) → IsReadingOf bytes d → (e : Draft) → LpOf bytes e → ◌⊎◌ (◌≡◌ {A = Result Draft ReadRefusal} (Ok d) (Ok e)) (◌≡◌ {A = Result Draft ReadRefusal} (Ok d) (Err NoMemory))
+read_only laws one bytes d h = only_of one bytes h.tokens h.are_tokens (Ok d) (only_draft laws (all_seen bytes h.tokens) d h.reading)

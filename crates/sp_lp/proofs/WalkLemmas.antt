@@ -5,6 +5,8 @@ use Rattle.std.proofs.Common.{get_or, zero, ◌≡◌, ℕ, suc, ◌+◌, ◌<�
 use Rattle.std.specs.Prelude.{option_and_then}
 use Rattle.sp_lp_tokens.specs.declared.token_types.Token.{Token}
 use Rattle.sp_lp_tokens.specs.SeenTokens.{SeenToken, seen, all_seen}
+use Rattle.sp_lp_tokens.specs.Rests.{whole, AreLeft}
+use Rattle.sp_lp_tokens.specs.Tokens.{AreTokens, Complete}
 use Rattle.std.proofs.Common.{add-one}
 use Rattle.std.proofs.lemmas.List.{length-map}
 use Rattle.sp_lp.specs.Walks.{IsStop}
@@ -76,3 +78,18 @@ is_stop source ts i c lt e f = record {
   before = ap (walk true 0 origin) (seen_take source ts i) ∙ e;
   through = rw (← add-one i) (ap (walk true 0 origin) (seen_take source ts (i + 1)) ∙ f);
 }
+
+-- with no token left, the reader stands where it stands
+pub walk_none : (first : Bool) (before : ℕ) (c : Cursor) → walk first before c [] ≡ Some c
+unfolding walk
+walk_none first before c = refl
+
+-- a token, and those behind it
+pub walk_on : (first : Bool) (before : ℕ) (c n : Cursor) (t : SeenToken) (ts : List SeenToken) → take_mark c (mark_of first before t) ≡ Some n → walk first before c (t ∷ ts) ≡ walk false t.line n ts
+unfolding walk
+walk_on first before c n t ts e = rw e refl
+
+-- all tokens of a file are left before the first one is taken
+pub whole_left : (source : List ℕ) (ts : List Token) → AreLeft source whole ts Complete → AreTokens source ts
+unfolding AreLeft
+whole_left source ts h = h

@@ -14,7 +14,7 @@ ghost use Rattle.sp_lp.specs.InnerAnswers.{refusal_by, IsOnlyAnswer};
 use crate::fault_kinds::{FaultKind, fault_kind};
 use crate::lp_laws::files_have_one_answer;
 use crate::other_tokens::fault_line;
-use crate::walking::{Stopped, draft_of};
+use crate::walking::{Stopped, draft_of, reading_of};
 use sp_draft::{Draft, ReadRefusal};
 use sp_lp_grammar::{files_mean_one_draft, fronts_begin_files, readers_tell_files};
 use sp_lp_tokens::{Token, TokenKindFault, TokenRefusal, tokens, tokens_are_unique};
@@ -69,8 +69,8 @@ fn read_list(alloc: Global, source: &[u8], list: &[Token]) -> Result<Draft, Read
     }
 }
 
-/// Reads a file.
-fn read_file(alloc: Global, bytes: &[u8]) -> Result<Draft, ReadRefusal>
+/// Reads a file by the list of its tokens, which tells the place of a fault.
+fn read_by_list(alloc: Global, bytes: &[u8]) -> Result<Draft, ReadRefusal>
     requires { length bytes.now ≤ most_bytes }
     ensures found { IfOk result (LpOf bytes.now) }
     ensures known { IfOk result IsWellFormed }
@@ -85,7 +85,26 @@ fn read_file(alloc: Global, bytes: &[u8]) -> Result<Draft, ReadRefusal>
     }
 }
 
-/// Reads a file in the CPLEX LP format, of at most 2^26 bytes.
+/// Reads a file. One that is accepted is read as its tokens come, without a list of them.
+fn read_file(alloc: Global, bytes: &[u8]) -> Result<Draft, ReadRefusal>
+    requires { length bytes.now ≤ most_bytes }
+    ensures found { IfOk result (LpOf bytes.now) }
+    ensures known { IfOk result IsWellFormed }
+    ensures only { (d : Draft) → LpOf bytes.now d → (result ≡ Ok d) ⊎ (result ≡ Err ReadRefusal.NoMemory) }
+    ensures refused { IfErr result (λ r. (r ≡ ReadRefusal.NoMemory) ⊎ IsRefused bytes.now r) }
+{
+    readers_tell_files();
+    fronts_begin_files();
+    files_mean_one_draft();
+    tokens_are_unique();
+    match reading_of(alloc, bytes) {
+        Some(draft) => Ok(draft),
+        None => read_by_list(alloc, bytes),
+    }
+}
+
+/// Reads a file in the CPLEX LP format, of at most 2^26 bytes. An accepted file takes memory for its draft alone; to tell
+/// the fault of any other, the list of its tokens is made too.
 ///
 /// # Errors
 ///

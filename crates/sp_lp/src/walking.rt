@@ -1,18 +1,20 @@
-//! The reader over a list of tokens, up to its end or to the first token that can't stand where it stands.
-ghost use Rattle.std.specs.Prelude.{◌≡◌, ◌≤◌, ◌||◌, nat_lt, true, length, Some, MatchResult, OnOk, IfErr, All};
+//! The reader over the tokens of a file as they come, and over a list of them, up to its end or to the first token that
+//! can't stand where it stands.
+ghost use Rattle.std.specs.Prelude.{◌≡◌, ◌≤◌, ◌||◌, nat_lt, true, length, Some, MatchResult, OnOk, IfErr, IfSome, IsTrue, All};
+ghost use Rattle.sp_lp_tokens.specs.Limits.{most_bytes};
 ghost use Rattle.sp_lp_tokens.specs.SeenTokens.{seen, all_seen};
 ghost use Rattle.sp_lp_tokens.specs.Tokens.{IsSpan};
 ghost use Rattle.sp_lp_grammar.specs.InnerCursor.{origin, take_mark, walk};
 ghost use Rattle.sp_lp.specs.Cursors.{cursor_of};
 ghost use Rattle.sp_lp_grammar.specs.Lexemes.{mark_of};
 ghost use Rattle.sp_lp.specs.Stops.{Gives};
-ghost use Rattle.sp_lp.specs.Walks.{IsReading, IsStopped};
+ghost use Rattle.sp_lp.specs.Walks.{IsReadThrough, IsReadingOf, IsReading, IsStopped};
 
 use crate::cursor::TokenReader;
 use crate::stops::Stop;
 use sp_draft::Draft;
 use sp_lp_grammar::readers_tell_files;
-use sp_lp_tokens::Token;
+use sp_lp_tokens::{Next, Rest, Token, next_token};
 use sp_lp_words::Tables;
 use std::alloc::Global;
 
@@ -50,6 +52,48 @@ pub(crate) fn read_next<'a>(
     let class = tables.class_of(source, token, initial);
     let first = is_first(initial, before, token.line);
     reader.take(first, &class, token.text(source))
+}
+
+/// Reads the tokens of the source as they come, with a reader that has read none, and tells whether it came to their end.
+fn read_through<'a>(source: &'a [u8], reader: &mut TokenReader<'a>) -> bool
+    requires small { length source.now ≤ most_bytes }
+    requires new { cursor_of reader.old ≡ origin }
+    ensures { IsTrue result → IsReadThrough source.now (cursor_of reader.new) }
+{
+    let tables = Tables::new();
+    let mut rest = Rest::whole();
+    let mut first = true;
+    let mut above = 0;
+    loop {
+        match next_token(source, &mut rest) {
+            Next::Nothing => return true,
+            Next::Fault(_, _) => return false,
+            Next::Token(token) => {
+                match read_next(&tables, source, &token, first, above, reader) {
+                    Ok(()) => {
+                        first = false;
+                        above = token.line;
+                    }
+                    Err(_) => return false,
+                }
+            }
+        }
+    }
+}
+
+/// The draft of the source, `None` where a fault or want of memory keeps it from being read to its end.
+pub(crate) fn reading_of(alloc: Global, source: &[u8]) -> Option<Draft>
+    requires { length source.now ≤ most_bytes }
+    ensures { IfSome result (IsReadingOf source.now) }
+{
+    let mut reader = TokenReader::new(alloc);
+    if !read_through(source, &mut reader) {
+        return None;
+    }
+    match reader.finish() {
+        Ok(draft) => Some(draft),
+        Err(_) => None,
+    }
 }
 
 /// Reads the tokens of the source with a reader that has read none.

@@ -1,13 +1,15 @@
-use Rattle.std.proofs.Common.{sym, subst}
-use Rattle.sp_lp_tokens.specs.Tokens.{AreTokens}
-use Rattle.sp_lp.proofs.PlaceLemmas.{ok_of, only_of, refused_of}
+use Rattle.sp_lp_tokens.specs.SeenTokens.{all_seen}
+use Rattle.sp_lp.proofs.FormedLemmas.{lp_formed}
+use Rattle.sp_lp.proofs.PlaceLemmas.{found_draft, read_says, read_only}
 use Rattle.sp_lp.proofs.lp_files.read_file.Goals as goal
 
-pub returns-in-Ok-clause-found : goal.returns-in-Ok-clause-found
-returns-in-Ok-clause-found c = ok_of c.args.bytes.now c.as_slice.result.now (subst (AreTokens c.args.bytes.now) (sym c.as_slice.ensures.value) c.in-Ok.ensures.found) c.read_list.result c.read_list.ensures.found
+pub returns-in-Some-clause-found : goal.returns-in-Some-clause-found
+returns-in-Some-clause-found c = read_says (record { accepted = c.readers_tell_files.ensures.accepted; unfinished = c.readers_tell_files.ensures.unfinished; begun = c.readers_tell_files.ensures.begun; refused = c.readers_tell_files.ensures.refused; front = c.fronts_begin_files.ensures.accepted; one = c.files_mean_one_draft.ensures }) c.args.bytes.now c.in-Some.draft c.in-Some.ensures
 
-pub returns-in-Ok-clause-only : goal.returns-in-Ok-clause-only
-returns-in-Ok-clause-only c = only_of c.tokens_are_unique.ensures c.args.bytes.now c.as_slice.result.now (subst (AreTokens c.args.bytes.now) (sym c.as_slice.ensures.value) c.in-Ok.ensures.found) c.read_list.result c.read_list.ensures.only
+pub returns-in-Some-clause-known : goal.returns-in-Some-clause-known
+returns-in-Some-clause-known c =
+    lp_formed (all_seen c.args.bytes.now c.in-Some.ensures.tokens) c.in-Some.draft
+    (found_draft (record { accepted = c.readers_tell_files.ensures.accepted; unfinished = c.readers_tell_files.ensures.unfinished; begun = c.readers_tell_files.ensures.begun; refused = c.readers_tell_files.ensures.refused; front = c.fronts_begin_files.ensures.accepted; one = c.files_mean_one_draft.ensures }) (all_seen c.args.bytes.now c.in-Some.ensures.tokens) c.in-Some.draft c.in-Some.ensures.reading)
 
-pub returns-in-Ok-clause-refused : goal.returns-in-Ok-clause-refused
-returns-in-Ok-clause-refused c = refused_of c.args.bytes.now c.as_slice.result.now (subst (AreTokens c.args.bytes.now) (sym c.as_slice.ensures.value) c.in-Ok.ensures.found) c.read_list.result c.read_list.ensures.refused
+pub returns-in-Some-clause-only : goal.returns-in-Some-clause-only
+returns-in-Some-clause-only c = read_only (record { accepted = c.readers_tell_files.ensures.accepted; unfinished = c.readers_tell_files.ensures.unfinished; begun = c.readers_tell_files.ensures.begun; refused = c.readers_tell_files.ensures.refused; front = c.fronts_begin_files.ensures.accepted; one = c.files_mean_one_draft.ensures }) c.tokens_are_unique.ensures c.args.bytes.now c.in-Some.draft c.in-Some.ensures

@@ -1,3 +1,4 @@
 pub mod Classes
+pub mod InnerFirsts
 pub mod Sections
 pub mod Tables

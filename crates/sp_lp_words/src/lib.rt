@@ -2,6 +2,7 @@
 #![tactic(auto)]
 
 mod classes;
+mod firsts;
 mod sections;
 mod tables;
 

@@ -5,6 +5,7 @@ ghost use Rattle.sp_lp_words.specs.Tables.{HasSections, HasObjectives, HasInfini
 ghost use Rattle.sp_lp_words.specs.Classes.{name_class, class_of};
 
 use crate::classes::{Class, symbol_class};
+use crate::firsts::may_be_word;
 use crate::sections::{Part, direction_for, part_for};
 use sp_decimal::Numeral;
 use sp_lp_tokens::{Token, TokenKind};
@@ -61,10 +62,13 @@ impl Tables {
         self.infinities.find(word).is_some()
     }
 
-    /// What a name is.
+    /// What a name is. The tables are asked only where its first letter and its length may be those of a word.
     fn name_class(&self, first: bool, word: &[u8]) -> Class
         ensures { result ≡ name_class first word.now }
     {
+        if !may_be_word(word) {
+            return Class::Name(None);
+        }
         if self.is_infinity(word) {
             Class::Number(Numeral::Huge { negative: false })
         } else if first {

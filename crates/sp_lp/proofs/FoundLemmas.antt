@@ -18,7 +18,7 @@ any_of : (p : Name → Bool) (x : Name) (xs : List Name) (b : Bool) → p x ≡ 
 any_of p x xs true e h = grind (arith, nat_tests)
 any_of p x xs false e h = lt-suc (position_or_len p xs) (length xs) ∙ h
 
-any_found : (p : Name → Bool) (xs : List Name) → nat_lt (position_or_len p xs) (length xs) ≡ list_any p xs
+pub any_found : (p : Name → Bool) (xs : List Name) → nat_lt (position_or_len p xs) (length xs) ≡ list_any p xs
 any_found p [] = refl
 any_found p (x ∷ xs) = any_of p x xs (p x) refl (any_found p xs)
 

@@ -1,6 +1,7 @@
 pub mod FileLemmas
 pub mod FormedLemmas
 pub mod FoundLemmas
+pub mod GuessLemmas
 pub mod KindLemmas
 pub mod OtherLemmas
 pub mod PlaceLemmas

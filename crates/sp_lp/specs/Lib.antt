@@ -1,5 +1,6 @@
 pub mod Cursors
 pub mod InnerAnswers
+pub mod InnerGuesses
 pub mod InnerKinds
 pub mod Numerals
 pub mod Refusals

@@ -6,6 +6,7 @@ mod fault_kinds;
 #[cfg(test)]
 mod file_tests;
 mod headings;
+mod known_names;
 mod lp_files;
 mod lp_laws;
 mod names;

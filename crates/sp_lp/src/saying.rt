@@ -4,15 +4,13 @@ ghost use Rattle.sp_draft.specs.Names.{place_of, with_name, is_among};
 ghost use Rattle.sp_lp_grammar.specs.Meaning.{nothing, plain_var, declared, with_term, with_constant, with_cost, with_row, with_indicator, with_row_name, with_set_name, bounded, unbounded, integer_kind, listed, with_var, closed, with_set, draft_of};
 ghost use Rattle.sp_lp.specs.States.{said_of};
 
+use crate::known_names::{KnownNames, add_name};
 use sp_decimal::{Decimal, Numeral};
 use sp_draft::{Draft, DraftIndicator, DraftRow, DraftSos, DraftVar, Names, Sense, Sides, VarKind};
 use sp_lp_words::Section;
 use sp_model::{Items, NoMemory, SosKind, VarId};
 use std::alloc::Global;
 use std::mem;
-
-/// The most names of a file. Fewer bytes than this make a file, so the limit is never met.
-const MOST_NAMES: usize = 1 << 30;
 
 /// What a file said so far.
 #[derive(Drop)]
@@ -22,7 +20,7 @@ pub struct Saying {
     /// Whether the objective is to be as great as possible.
     pub maximize: bool,
     /// The names of the variables, in declared order.
-    pub names: Names,
+    pub names: KnownNames,
     /// The variables, in the order of their names.
     pub vars: Vec<DraftVar>,
     /// The terms of the sum, or the members of the set, that is being read.
@@ -105,23 +103,9 @@ fn listed(section: Section, mut var: DraftVar) -> DraftVar
     var
 }
 
-/// Puts the name among the others.
-fn add_name(names: &mut Names, name: &[u8]) -> Result<VarId, NoMemory>
-    ensures names { OnOk result (names.new ≡ with_name names.old name.now) }
-    ensures place { IfOk result (λ id. id ≡ place_of names.old name.now) }
-{
-    if MOST_NAMES < names.len() {
-        return Err(NoMemory);
-    }
-    match names.add(name) {
-        Ok(id) => Ok(id),
-        Err(_) => Err(NoMemory),
-    }
-}
-
 /// The place of the name among the names, or how many there are.
 #[tactic(auto, using(crate::proofs::FoundLemmas::place_past))]
-fn place_of(names: &Names, name: &[u8]) -> VarId
+fn place_of(names: &KnownNames, name: &[u8]) -> VarId
     ensures { result ≡ place_of names.now name.now }
 {
     match names.find(name) {
@@ -138,7 +122,7 @@ impl Saying {
         Saying {
             alloc,
             maximize,
-            names: Names::new(alloc),
+            names: KnownNames::new(alloc),
             vars: Vec::new(alloc),
             terms: Items::new(alloc),
             cost: Items::new(alloc),
@@ -152,23 +136,33 @@ impl Saying {
         }
     }
 
-    /// Declares the name, unless it is declared.
-    #[tactic(auto, using(crate::proofs::FoundLemmas::is_some_found))]
-    pub(crate) fn declare(&mut self, name: &[u8]) -> Result<VarId, NoMemory>
+    /// Declares the name, unless it is declared, where it isn't known.
+    fn look_up(&mut self, name: &[u8]) -> Result<VarId, NoMemory>
         ensures said { OnOk result (said_of self.new ≡ declared name.now (said_of self.old)) }
         ensures place { IfOk result (λ id. id ≡ place_of self.old.names name.now) }
     {
         // Without a mention of the enum within a variable, the prover makes no plan for a call that lends the variables.
         let _held: Option<Numeral> = None;
-        match self.names.find(name) {
+        match self.names.look_up(name) {
             Some(id) => Ok(id),
             None => {
-                let id = add_name(&mut self.names, name)?;
+                let id = self.names.add(name)?;
                 match self.vars.push(plain_var()) {
                     Ok(()) => Ok(id),
                     Err(_) => Err(NoMemory),
                 }
             }
+        }
+    }
+
+    /// Declares the name, unless it is declared.
+    pub(crate) fn declare(&mut self, name: &[u8]) -> Result<VarId, NoMemory>
+        ensures said { OnOk result (said_of self.new ≡ declared name.now (said_of self.old)) }
+        ensures place { IfOk result (λ id. id ≡ place_of self.old.names name.now) }
+    {
+        match self.names.guessed(name) {
+            Some(id) => Ok(id),
+            None => self.look_up(name),
         }
     }
 
@@ -362,7 +356,7 @@ impl Saying {
             Err(error) => Err(error),
             Ok(()) => Ok(Draft {
                 maximize: self.maximize,
-                names: self.names,
+                names: self.names.into_names(),
                 vars: Items::from_vec(self.vars),
                 cost: self.cost,
                 constants: self.constants,

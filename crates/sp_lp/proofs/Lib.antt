@@ -5,5 +5,6 @@ pub mod GuessLemmas
 pub mod KindLemmas
 pub mod OtherLemmas
 pub mod PlaceLemmas
+pub mod RowNameLemmas
 pub mod StandingLemmas
 pub mod WalkLemmas

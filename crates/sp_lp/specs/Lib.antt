@@ -4,6 +4,7 @@ pub mod InnerGuesses
 pub mod InnerKinds
 pub mod Numerals
 pub mod Refusals
+pub mod RowNames
 pub mod Standins
 pub mod States
 pub mod Stops

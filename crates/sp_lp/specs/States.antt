@@ -1,6 +1,7 @@
 -- The reader as the state of the machine.
 use Rattle.sp_lp_grammar.specs.Meaning.{Said}
 use Rattle.sp_lp_grammar.specs.InnerMachine.{State}
+use Rattle.sp_lp.specs.RowNames.{names_of}
 use Rattle.sp_lp.specs.declared.saying.Saying.{Saying}
 use Rattle.sp_lp.specs.declared.reader.Reader.{Reader}
 
@@ -16,7 +17,7 @@ said_of s = record {
   indicators = s.indicators;
   set_kind = s.set_kind;
   sets = s.sets;
-  row_names = s.row_names;
+  row_names = names_of s.row_names.keys;
   set_names = s.set_names;
 }
 

@@ -11,7 +11,6 @@ use crate::stops::Stop;
 use sp_draft::Draft;
 use sp_lp_grammar::{Place, Sum};
 use sp_lp_words::Section;
-use std::mem;
 
 /// Where the entries of a section stand.
 pub(crate) fn place_behind(section: Section) -> Option<Place>
@@ -155,14 +154,10 @@ impl<'a> Reader<'a> {
         ensures { IsOutcome result (finished self.old.place (state_of self.old).said) }
     {
         match self.place {
-            Place::Done => {
-                let alloc = self.said.alloc;
-                let said = mem::replace(&mut self.said, Saying::new(alloc, false));
-                match said.into_draft() {
-                    Ok(draft) => Ok(draft),
-                    Err(_) => Err(Stop::Memory),
-                }
-            }
+            Place::Done => match self.said.take_draft() {
+                Ok(draft) => Ok(draft),
+                Err(_) => Err(Stop::Memory),
+            },
             _ => Err(Stop::Fault),
         }
     }

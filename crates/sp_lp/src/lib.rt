@@ -15,6 +15,7 @@ mod other_tokens;
 mod questions;
 mod reader;
 mod relations;
+mod row_names;
 mod saying;
 mod signs;
 mod standing;

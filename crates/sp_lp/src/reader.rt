@@ -35,7 +35,7 @@ pub struct Reader<'a> {
     /// The kind of the next set.
     pub kind: SosKind,
     /// What the file said.
-    pub said: Saying,
+    pub said: Saying<'a>,
 }
 
 /// The number 0.

@@ -88,11 +88,9 @@ impl<'a> Reader<'a> {
     fn row_colon(&mut self) -> Result<(), Stop>
         ensures { Gives result (state_of self.new) (colon_step Place.RowName (state_of self.old)) }
     {
-        if self.said.has_row(self.name) {
-            return Err(Stop::Fault);
-        }
         match self.said.name_row(self.name) {
-            Ok(()) => self.go(Place::Labelled),
+            Ok(true) => self.go(Place::Labelled),
+            Ok(false) => Err(Stop::Fault),
             Err(_) => Err(Stop::Memory),
         }
     }

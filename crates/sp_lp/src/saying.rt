@@ -1,10 +1,12 @@
 //! What a file said so far.
-ghost use Rattle.std.specs.Prelude.{◌≡◌, [], None, Some, length, slice_index_or, slice_set, OnOk, IfOk};
+ghost use Rattle.std.specs.Prelude.{◌≡◌, [], None, Some, not, length, slice_index_or, slice_set, OnOk, IfOk};
 ghost use Rattle.sp_draft.specs.Names.{place_of, with_name, is_among};
 ghost use Rattle.sp_lp_grammar.specs.Meaning.{nothing, plain_var, declared, with_term, with_constant, with_cost, with_row, with_indicator, with_row_name, with_set_name, bounded, unbounded, integer_kind, listed, with_var, closed, with_set, draft_of};
 ghost use Rattle.sp_lp.specs.States.{said_of};
 
 use crate::known_names::{KnownNames, add_name};
+use crate::row_names::{has_name, put_name};
+use indexmap::IndexSet;
 use sp_decimal::{Decimal, Numeral};
 use sp_draft::{Draft, DraftIndicator, DraftRow, DraftSos, DraftVar, Names, Sense, Sides, VarKind};
 use sp_lp_words::Section;
@@ -14,7 +16,7 @@ use std::mem;
 
 /// What a file said so far.
 #[derive(Drop)]
-pub struct Saying {
+pub struct Saying<'a> {
     /// Where the lists take their memory from.
     pub alloc: Global,
     /// Whether the objective is to be as great as possible.
@@ -38,7 +40,7 @@ pub struct Saying {
     /// The sets.
     pub sets: Items<DraftSos>,
     /// The names of rows and indicators.
-    pub row_names: Names,
+    pub row_names: IndexSet<&'a [u8]>,
     /// The names of sets.
     pub set_names: Names,
 }
@@ -114,9 +116,9 @@ fn place_of(names: &KnownNames, name: &[u8]) -> VarId
     }
 }
 
-impl Saying {
+impl<'a> Saying<'a> {
     /// Nothing yet. It takes no memory.
-    pub(crate) fn new(alloc: Global, maximize: bool) -> Saying
+    pub(crate) fn new(alloc: Global, maximize: bool) -> Saying<'a>
         ensures { said_of result ≡ nothing maximize }
     {
         Saying {
@@ -131,7 +133,7 @@ impl Saying {
             indicators: Items::new(alloc),
             set_kind: None,
             sets: Items::new(alloc),
-            row_names: Names::new(alloc),
+            row_names: IndexSet::new(alloc),
             set_names: Names::new(alloc),
         }
     }
@@ -289,12 +291,12 @@ impl Saying {
         Ok(())
     }
 
-    /// A row or an indicator has the name.
-    pub(crate) fn name_row(&mut self, name: &[u8]) -> Result<(), NoMemory>
-        ensures { OnOk result (said_of self.new ≡ with_row_name (Some name.now) (said_of self.old)) }
+    /// A row or an indicator has the name. Tells whether none before has it.
+    pub(crate) fn name_row(&mut self, name: &'a [u8]) -> Result<bool, NoMemory>
+        ensures said { OnOk result (said_of self.new ≡ with_row_name (Some name.now) (said_of self.old)) }
+        ensures new { IfOk result (λ new. new ≡ not (is_among (said_of self.old).row_names name.now)) }
     {
-        add_name(&mut self.row_names, name)?;
-        Ok(())
+        put_name(&mut self.row_names, name)
     }
 
     /// A set has the name.
@@ -306,11 +308,10 @@ impl Saying {
     }
 
     /// Whether a row or an indicator has the name.
-    #[tactic(auto, using(crate::proofs::FoundLemmas::is_some_found))]
     pub(crate) fn has_row(&self, name: &[u8]) -> bool
-        ensures { result ≡ is_among self.now.row_names name.now }
+        ensures { result ≡ is_among (said_of self.now).row_names name.now }
     {
-        self.row_names.find(name).is_some()
+        has_name(&self.row_names, name)
     }
 
     /// Whether a set has the name.
@@ -347,23 +348,28 @@ impl Saying {
         Ok(())
     }
 
-    /// The draft.
+    /// The draft. Nothing is left of what was said.
     #[tactic(auto, using(crate::proofs::FoundLemmas::closed_draft))]
-    pub(crate) fn into_draft(mut self) -> Result<Draft, NoMemory>
-        ensures { IfOk result (λ draft. draft ≡ draft_of (said_of self)) }
+    pub(crate) fn take_draft(&mut self) -> Result<Draft, NoMemory>
+        ensures { IfOk result (λ draft. draft ≡ draft_of (said_of self.old)) }
     {
         match self.close_set() {
             Err(error) => Err(error),
-            Ok(()) => Ok(Draft {
-                maximize: self.maximize,
-                names: self.names.into_names(),
-                vars: Items::from_vec(self.vars),
-                cost: self.cost,
-                constants: self.constants,
-                rows: self.rows,
-                indicators: self.indicators,
-                sos: self.sets,
-            }),
+            Ok(()) => {
+                let alloc = self.alloc;
+                let names = mem::replace(&mut self.names, KnownNames::new(alloc));
+                let vars = mem::replace(&mut self.vars, Vec::new(alloc));
+                Ok(Draft {
+                    maximize: self.maximize,
+                    names: names.into_names(),
+                    vars: Items::from_vec(vars),
+                    cost: mem::replace(&mut self.cost, Items::new(alloc)),
+                    constants: mem::replace(&mut self.constants, Items::new(alloc)),
+                    rows: mem::replace(&mut self.rows, Items::new(alloc)),
+                    indicators: mem::replace(&mut self.indicators, Items::new(alloc)),
+                    sos: mem::replace(&mut self.sets, Items::new(alloc)),
+                })
+            }
         }
     }
 }

@@ -11,8 +11,7 @@ use Rattle.std.proofs.lemmas.List.Folds.{position_or_len_push}
 use Rattle.std.proofs.lemmas.List.Sums.{prefix_len-le-length}
 use Rattle.std.proofs.lemmas.Slice.Eq.{bytes_eq-Decides}
 use Rattle.sp_draft.specs.Names.{Name, is_among, find_name, place_of, with_name}
-use Rattle.sp_lp.specs.InnerGuesses.{IsByte, key_of, IsTrueOf, AreTrueOf}
-use Rattle.sp_lp.specs.declared.known_names.Guess.{Guess}
+use Rattle.sp_lp.specs.InnerGuesses.{IsByte, key_of, IsGuessOf, IsTrueOf, AreTrueOf}
 use Rattle.sp_lp.proofs.FoundLemmas.{any_found}
 
 -- no name has the number 0
@@ -42,13 +41,22 @@ key_bound (b ∷ bs) p =
     let e : 256 ^ suc (length bs) ≡ 256 ^ length bs * 256 = pow-suc 256 (length bs) in
     omega arith
 
--- what is left of a short name behind its first bytes has a small number
-pub key_small : (name : Name) (place key : ℕ) → key ≡ key_of (drop place name) → All IsByte (drop place name) → length name ≤ 15 → 0 < place → key < 2 ^ 113
+-- what is left of a name of at most twelve bytes has a number below 2^97
+pub key_fits : (name : Name) (place key : ℕ) → key ≡ key_of (drop place name) → All IsByte (drop place name) → length name ≤ 12 → key < 2 ^ 97
+key_fits name place key e p few =
+    let rest : List ℕ = drop place name in
+    let short : length rest ≤ 12 = omega (arith, length-drop place name) in
+    let h : key_of rest + 1 ≤ 2 * 256 ^ length rest = key_bound rest p in
+    let g : 256 ^ length rest ≤ 256 ^ 12 = pow-le-pow_right (omega arith) short in
+    omega arith
+
+-- behind a first byte, its number has room for a byte more
+pub key_small : (name : Name) (place key : ℕ) → key ≡ key_of (drop place name) → All IsByte (drop place name) → length name ≤ 12 → 0 < place → key < 2 ^ 89
 key_small name place key e p few some =
     let rest : List ℕ = drop place name in
-    let short : length rest ≤ 14 = omega (arith, length-drop place name) in
+    let short : length rest ≤ 11 = omega (arith, length-drop place name) in
     let h : key_of rest + 1 ≤ 2 * 256 ^ length rest = key_bound rest p in
-    let g : 256 ^ length rest ≤ 256 ^ 14 = pow-le-pow_right (omega arith) short in
+    let g : 256 ^ length rest ≤ 256 ^ 11 = pow-le-pow_right (omega arith) short in
     omega arith
 
 some_of : (b : Bool) (m n : ℕ) → cond b (Some m) None ≡ Some n → (b ≡ true) × (m ≡ n)
@@ -73,9 +81,9 @@ kept_by names new name place true e h = rw e h
 kept_by names new name place false e h = rw e (found_kept names new name place h)
 
 -- what is true of the names is true of them and another
-pub true_of_more : (names : List Name) (new : Name) (guesses : List Guess) → AreTrueOf names guesses → AreTrueOf (with_name names new) guesses
+pub true_of_more : (names : List Name) (new : Name) (guesses : List ℕ) → AreTrueOf names guesses → AreTrueOf (with_name names new) guesses
 true_of_more names new guesses h =
-    All-weaker (IsTrueOf names) (IsTrueOf (with_name names new)) (λ guess here name bytes e. kept_by names new name guess.place (is_among names new) refl (here name bytes e)) guesses h
+    All-weaker (IsTrueOf names) (IsTrueOf (with_name names new)) (λ guess here name place bytes is. kept_by names new name place (is_among names new) refl (here name place bytes is)) guesses h
 
 itself : (name : Name) → bytes_eq name name ≡ true
 itself name = (bytes_eq-Decides name name).1 refl
@@ -97,12 +105,18 @@ put_by names name false e =
 pub found_put : (names : List Name) (name : Name) → find_name (with_name names name) name ≡ Some (place_of names name)
 found_put names name = put_by names name (is_among names name) refl
 
--- the number 0 is that of no name
-pub free_true : (names : List Name) (guess : Guess) → guess.key ≡ 0 → IsTrueOf names guess
-free_true names guess e name bytes f = absurd (let h : 1 ≤ key_of name = key_some name in omega arith)
+-- 0 is a guess of no name
+pub free_true : (names : List Name) → IsTrueOf names 0
+free_true names name place bytes is = absurd (let h : 1 ≤ key_of name = key_some name in let sum : 0 ≡ key_of name * 2 ^ 31 + place = is.sum in omega arith)
 
 -- a name and where it is found
-pub noted : (names : List Name) (name : Name) (guess : Guess) → All IsByte name → guess.key ≡ key_of name → find_name names name ≡ Some guess.place → IsTrueOf names guess
-noted names name guess bytes e h other those f =
-    let same : other ≡ name = key_same other name those bytes (f ∙ e) in
-    ap (find_name names) same ∙ h
+pub noted : (names : List Name) (name : Name) (key place guess : ℕ) → All IsByte name → key ≡ key_of name → IsGuessOf key place guess → find_name names name ≡ Some place → IsTrueOf names guess
+noted names name key place guess bytes e g h other there those is =
+    let a : place < 2 ^ 31 = g.small in
+    let b : there < 2 ^ 31 = is.small in
+    let f : guess ≡ key * 2 ^ 31 + place = g.sum in
+    let i : guess ≡ key_of other * 2 ^ 31 + there = is.sum in
+    let keys : key_of other ≡ key_of name = omega arith in
+    let places : place ≡ there = omega arith in
+    let same : other ≡ name = key_same other name those bytes keys in
+    ap (find_name names) same ∙ (h ∙ ap Some places)

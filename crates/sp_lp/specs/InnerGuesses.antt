@@ -1,7 +1,6 @@
 -- Where names stand, by short names as numbers.
-use Rattle.std.specs.Prelude.{◌≡◌, ℕ, ◌+◌, ◌*◌, ◌<◌, List, [], ◌∷◌, Some, All}
+use Rattle.std.specs.Prelude.{◌≡◌, ℕ, ◌+◌, ◌*◌, ◌^◌, ◌<◌, List, [], ◌∷◌, Some, All}
 use Rattle.sp_draft.specs.Names.{Name, find_name}
-use Rattle.sp_lp.specs.declared.known_names.Guess.{Guess}
 
 abbrev pub IsByte : ℕ → Type 0
 IsByte b = b < 256
@@ -11,9 +10,14 @@ abbrev pub key_of : Name → ℕ
 key_of [] = 1
 key_of (b ∷ bs) = b + 256 * key_of bs
 
--- the name of which the guess has the number, if there is one, stands where the guess says
-abbrev pub IsTrueOf : List Name → Guess → Type 0
-IsTrueOf names guess = (name : Name) → All IsByte name → key_of name ≡ guess.key → find_name names name ≡ Some guess.place
+-- the guess says that the name with the number stands at the place
+pub record IsGuessOf (key place guess : ℕ) : Type 0 where
+  pub small : place < 2 ^ 31
+  pub sum : guess ≡ key * 2 ^ 31 + place
 
-abbrev pub AreTrueOf : List Name → List Guess → Type 0
+-- a name of which it is a guess stands where the guess says
+abbrev pub IsTrueOf : List Name → ℕ → Type 0
+IsTrueOf names guess = (name : Name) (place : ℕ) → All IsByte name → IsGuessOf (key_of name) place guess → find_name names name ≡ Some place
+
+abbrev pub AreTrueOf : List Name → List ℕ → Type 0
 AreTrueOf names guesses = All (IsTrueOf names) guesses

@@ -1,7 +1,7 @@
 //! The names of a file's variables, with the places of those that were looked up lately.
 ghost use Rattle.std.specs.Prelude.{◌≡◌, ◌<◌, ◌^◌, [], length, All, Some, OnOk, OnErr, IfOk, IfSome};
 ghost use Rattle.sp_draft.specs.Names.{find_name, place_of, with_name};
-ghost use Rattle.sp_lp.specs.InnerGuesses.{key_of, IsByte};
+ghost use Rattle.sp_lp.specs.InnerGuesses.{key_of, IsByte, IsGuessOf, IsTrueOf};
 
 use sp_draft::Names;
 use sp_model::{NoMemory, VarId};
@@ -14,34 +14,28 @@ const MOST_NAMES: usize = 1 << 30;
 /// How many guesses there are at first.
 const FIRST_GUESSES: usize = 1 << 8;
 
-/// The most guesses, of 32 bytes each.
+/// The most guesses, of 16 bytes each.
 const MOST_GUESSES: usize = 1 << 18;
 
 /// In how many slots the guess for a name may stand.
 const TRIES: usize = 4;
 
 /// The most bytes of a name that is packed into a number.
-const LONGEST: usize = 15;
+const LONGEST: usize = 12;
+
+/// The places of a guess are less than this.
+const PLACES: u128 = 1 << 31;
 
 /// A number by which the bits of another are mixed.
 const MIXER: u64 = 0x9E37_79B9_7F4A_7C15;
 
-/// A short name as a number, and its place. The number 0 is that of no name.
-#[derive(Clone, Copy)]
-pub struct Guess {
-    /// The name as a number.
-    pub key: u128,
-    /// Where it stands among the names.
-    pub place: VarId,
-}
-
-/// Distinct names in the order in which they were added, and for some of them where they stand. Contracts see the list of the
-/// names.
+/// Distinct names in the order in which they were added, and for some of them where they stand. A guess is the number of a
+/// short name, times 2^31, and its place; 0 is that of no name. Contracts see the list of the names.
 #[derive(Drop)]
 pub struct KnownNames {
     alloc: Global,
     names: Names,
-    guesses: Vec<Guess>,
+    guesses: Vec<u128>,
 }
 
 impl Model for KnownNames {
@@ -60,6 +54,7 @@ impl Model for KnownNames {
 #[tactic(auto, using(crate::proofs::GuessLemmas::key_small))]
 fn pack(name: &[u8]) -> Option<u128>
     ensures key { IfSome result (λ key. key ≡ key_of name.now) }
+    ensures small { IfSome result (λ key. key < 2 ^ 97) }
     ensures bytes { IfSome result (λ _. All IsByte name.now) }
 {
     if LONGEST < name.len() {
@@ -80,6 +75,32 @@ fn slot_of(key: u128, room: usize) -> usize {
     let high = (key >> 64) as u64;
     let mixed = (low ^ high).wrapping_mul(MIXER) >> 44;
     mixed as usize & room.wrapping_sub(1)
+}
+
+/// The guess that the name with the number has the place, if the place is small enough.
+fn guess_of(key: u128, place: VarId) -> Option<u128>
+    requires { key < 2 ^ 97 }
+    ensures { IfSome result (IsGuessOf key place) }
+{
+    let place = place.index() as u128;
+    if place < PLACES {
+        Some(key * PLACES + place)
+    } else {
+        None
+    }
+}
+
+/// The place that the guess gives the name with the number, if it is a guess of that name.
+fn place_in(guess: u128, key: u128) -> Option<VarId>
+    requires { key < 2 ^ 97 }
+    ensures { IfSome result (λ place. IsGuessOf key place guess) }
+{
+    let least = key * PLACES;
+    if least <= guess && guess - least < PLACES {
+        Some(VarId::new((guess - least) as u32))
+    } else {
+        None
+    }
 }
 
 /// Puts the name among the others.
@@ -124,6 +145,17 @@ impl KnownNames {
         self.names.find(name)
     }
 
+    /// The guess in the slot, 0 where there is no such slot.
+    fn guess_in(&self, slot: usize) -> u128
+        ensures { IsTrueOf self.now result }
+    {
+        if slot < self.guesses.len() {
+            self.guesses[slot]
+        } else {
+            0
+        }
+    }
+
     /// The variable of the name, if it was looked up lately. `None` says nothing of the name.
     pub fn guessed(&self, name: &[u8]) -> Option<VarId>
         ensures { IfSome result (λ id. find_name self.now name.now ≡ Some id) }
@@ -131,23 +163,19 @@ impl KnownNames {
         let key = pack(name)?;
         let slot = slot_of(key, self.guesses.len());
         for step in 0..TRIES {
-            if let Some(guess) = self.guesses.get(slot.wrapping_add(step)) {
-                if guess.key == key {
-                    return Some(guess.place);
-                }
+            if let Some(place) = place_in(self.guess_in(slot.wrapping_add(step)), key) {
+                return Some(place);
             }
         }
         None
     }
 
-    /// The slot that a guess for the number is put into: one that is free or has the number, or else the first. It is a hint.
+    /// The slot that a guess of the name with the number is put into: a free one, or else the first. It is a hint.
     fn slot_for(&self, key: u128) -> usize {
         let slot = slot_of(key, self.guesses.len());
         for step in 0..TRIES {
-            if let Some(guess) = self.guesses.get(slot.wrapping_add(step)) {
-                if guess.key == 0 || guess.key == key {
-                    return slot.wrapping_add(step);
-                }
+            if self.guess_in(slot.wrapping_add(step)) == 0 {
+                return slot.wrapping_add(step);
             }
         }
         slot
@@ -158,17 +186,13 @@ impl KnownNames {
         ensures { self.new ≡ self.old }
     {
         let room = self.guesses.len();
-        if room < MOST_GUESSES && room < 4 * self.names.len() {
+        if room < MOST_GUESSES && room < 2 * self.names.len() {
             let wanted = if room < FIRST_GUESSES {
                 FIRST_GUESSES
             } else {
-                4 * room
+                2 * room
             };
-            let free = Guess {
-                key: 0,
-                place: VarId::new(0),
-            };
-            match vec![in self.alloc; free; wanted] {
+            match vec![in self.alloc; 0; wanted] {
                 Ok(guesses) => self.guesses = guesses,
                 Err(_) => {}
             }
@@ -182,9 +206,11 @@ impl KnownNames {
     {
         if let Some(key) = pack(name) {
             self.grow();
-            let slot = self.slot_for(key);
-            if slot < self.guesses.len() {
-                self.guesses[slot] = Guess { key, place: id };
+            if let Some(guess) = guess_of(key, id) {
+                let slot = self.slot_for(key);
+                if slot < self.guesses.len() {
+                    self.guesses[slot] = guess;
+                }
             }
         }
     }

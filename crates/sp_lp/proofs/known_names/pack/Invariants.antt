@@ -6,7 +6,7 @@ use Rattle.sp_lp.proofs.known_names.pack.Given as goal
 abbrev pub invariant-loop-place : goal.invariant-loop-place
 invariant-loop-place l = record {
   within : l.place ≤ length l.name;
-  few : length l.name ≤ 15;
+  few : length l.name ≤ 12;
   key : l.key ≡ key_of (drop l.place l.name);
   bytes : All IsByte (drop l.place l.name);
 }

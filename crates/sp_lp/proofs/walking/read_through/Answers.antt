@@ -1,4 +1,4 @@
-use Rattle.std.proofs.Common.{[], ◌∷◌, ◌∙◌, subst, sym}
+use Rattle.std.proofs.Common.{[], ◌∷◌, ◌∙◌, subst}
 use Rattle.sp_lp_tokens.specs.declared.reading.Rest.{Rest}
 use Rattle.sp_lp_tokens.specs.Rests.{AreLeft}
 use Rattle.sp_lp_tokens.specs.SeenTokens.{seen, all_seen}

@@ -7,3 +7,6 @@ invariant_of-self c = rw c.in-Ok.ensures.names (true_of_more c.self.inside.names
 
 pub note-requires : goal.note-requires
 note-requires c = rw c.in-Ok.ensures.names (found_put c.self.inside.names c.args.name.now ∙ ap Some (sym c.in-Ok.ensures.place))
+
+pub invariant_of-self-in-Err : goal.invariant_of-self-in-Err
+invariant_of-self-in-Err c = rw c.in-Err.ensures.err c.self.invariant
